@@ -1,0 +1,4 @@
+pub mod Trees
+pub mod Injective
+pub mod Around
+pub mod Depth

@@ -1,0 +1,5 @@
+pub mod Syntax
+pub mod View
+pub mod Around
+pub mod Symbol
+pub mod Spelling

@@ -1,0 +1,11 @@
+//! Terms and formulas of first-order logic.
+#![tactic(auto)]
+
+mod formula;
+mod instance;
+mod spine;
+mod term;
+
+pub use formula::{Formula, Formulas, is_closed, occurs_param, same};
+pub use instance::instantiate;
+pub use term::{Term, Terms, is_closed_term, same_terms};
