@@ -1,0 +1,7 @@
+//! One step of the calculus GS3.
+#![tactic(auto)]
+
+mod parts;
+mod step;
+
+pub use step::{ApplyError, Premises, Step, Steps, apply};
