@@ -2,3 +2,4 @@ pub mod Trees
 pub mod Injective
 pub mod Around
 pub mod Depth
+pub mod SymbolLists

@@ -2,4 +2,5 @@ pub mod Syntax
 pub mod View
 pub mod Around
 pub mod Symbol
+pub mod SymbolList
 pub mod Spelling

@@ -3,9 +3,13 @@
 
 mod formula;
 mod instance;
+mod numbering;
+mod spelling;
 mod spine;
+mod symbols;
 mod term;
 
 pub use formula::{Formula, Formulas, is_closed, occurs_param, same};
 pub use instance::instantiate;
+pub use symbols::Symbols;
 pub use term::{Term, Terms, is_closed_term, same_terms};
