@@ -3,3 +3,4 @@ pub mod Injective
 pub mod Around
 pub mod Depth
 pub mod SymbolLists
+pub mod Grown

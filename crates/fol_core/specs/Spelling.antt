@@ -79,3 +79,8 @@ abbrev mutual
   pub AreOver : List Symbol → PlainTerms → Type 0
   AreOver fs no_terms = Unit {0}
   AreOver fs (terms u us) = IsOver fs u × AreOver fs us
+
+-- more behind what was there
+pub record IsGrown (old new : List ℕ) : Type 0 where
+  pub more : List ℕ
+  pub is : new ≡ old ++ more

@@ -11,5 +11,6 @@ mod term;
 
 pub use formula::{Formula, Formulas, is_closed, occurs_param, same};
 pub use instance::instantiate;
+pub use spelling::{spell_symbol, spell_term};
 pub use symbols::Symbols;
 pub use term::{Term, Terms, is_closed_term, same_terms};
