@@ -4,3 +4,4 @@ pub mod Around
 pub mod Depth
 pub mod SymbolLists
 pub mod Grown
+pub mod Examples
