@@ -104,8 +104,8 @@ mutual
   stops_in_tree (by rule ts) list lists rules n shape (inl s) = inl (inl s)
   stops_in_tree (by rule ts) list lists rules n shape (inr s) =
       elim (stops_in_trees ts (map (λ a. list ++ a) s.0) lists rules s.2 (shape.0 ∙ sym (step_premises list rule s.0 s.1) ∙ sym (length-map s.0 (λ a. list ++ a))) shape.1 s.4) [
-        inl f ↦ inl (inr (s.0, s.1, s.2, s.3, f))
-      | inr g ↦ inr ((s.0, s.1, g.0), g.1, omega (arith, s.3, g.2), g.3)
+        | inl f ↦ inl (inr (s.0, s.1, s.2, s.3, f))
+        | inr g ↦ inr ((s.0, s.1, g.0), g.1, omega (arith, s.3, g.2), g.3)
       ]
 
   stops_in_trees : (ts : Premises) (first lists : List (List PlainFormula)) (rules : List Rule) (n : ℕ)
@@ -116,10 +116,10 @@ mutual
   stops_in_trees (premise t ts) [] lists rules n e shape s = absurd (omega arith)
   stops_in_trees (premise t ts) (list ∷ first) lists rules n e shape s =
       elim (stops_in_tree t list (first ++ lists) (preorder_each ts ++ rules) n shape.0 (subst (λ x. StopAt (list ∷ (first ++ lists)) x n) (append_assoc (preorder t) (preorder_each ts) rules) s)) [
-        inl f ↦ inl (inl f)
-      | inr h ↦ elim (stops_in_trees ts first lists rules h.1 (omega arith) shape.1 h.3) [
-          inl g ↦ inl (inr (h.0, h.1, h.2, g))
-        | inr g ↦ inr ((h.0, g.0), g.1, omega (arith, h.2, g.2, length-append (preorder t) (preorder_each ts)), g.3)
+        | inl f ↦ inl (inl f)
+        | inr h ↦ elim (stops_in_trees ts first lists rules h.1 (omega arith) shape.1 h.3) [
+          | inl g ↦ inl (inr (h.0, h.1, h.2, g))
+          | inr g ↦ inr ((h.0, g.0), g.1, omega (arith, h.2, g.2, length-append (preorder t) (preorder_each ts)), g.3)
         ]
       ]
 
@@ -127,6 +127,6 @@ mutual
 pub stops_where_fails : (tree : ProofTree) (list : List PlainFormula) (n : ℕ) → HasShape tree → StopAt (list ∷ []) (preorder tree) n → FailsAt list tree n
 stops_where_fails tree list n shape s =
     elim (stops_in_tree tree list [] [] n shape (subst (λ x. StopAt (list ∷ []) x n) (sym (append-nil (preorder tree))) s)) [
-      inl f ↦ f
-    | inr h ↦ absurd h.3
+      | inl f ↦ f
+      | inr h ↦ absurd h.3
     ]
