@@ -1,5 +1,5 @@
 -- A level below a spine, and the plain tree of a spine.
-use Rattle.std.proofs.Common.{◌≡◌, ◌≤◌, ℕ, List, [], ◌∷◌, ◌++◌, refl, ap, ◌∙◌, rules, subst, arith}
+use Rattle.std.proofs.Common.{◌≡◌, ◌≤◌, ℕ, List, [], ◌∷◌, ◌++◌, refl, ap, ◌∙◌, rules, arith}
 use Rattle.fol_core.specs.Syntax.{PlainFormula}
 use Rattle.fol_core.specs.View.{formula_of}
 use Rattle.fol_core.specs.declared.formula.Formula.{Formula, size-Formula}

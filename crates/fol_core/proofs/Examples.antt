@@ -1,7 +1,7 @@
 -- The definitions on small examples.
 use Rattle.std.proofs.Common.{◌≡◌, true, false, [], ◌∷◌, codes, refl, lit<, List}
 use Rattle.std.specs.Fmt.{digits}
-use Rattle.fol_core.specs.Syntax.{PlainTerm, bound, param, app, no_terms, terms, PlainFormula, atom, not, and, imp, all, ex, instance, free_in, free_in_term, param_in}
+use Rattle.fol_core.specs.Syntax.{PlainTerm, bound, param, app, no_terms, terms, PlainFormula, atom, not, and, imp, all, ex, instance, free_in, param_in}
 use Rattle.fol_core.specs.Symbol.{Symbol}
 use Rattle.fol_core.specs.Spelling.{spelled, spelled_symbol, depth, IsOver}
 

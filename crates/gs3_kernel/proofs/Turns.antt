@@ -1,11 +1,11 @@
 -- A step done on the first open list keeps what the steps after it have to refute, and where they stop.
 use Rattle.std.proofs.Math.Seq.{drop-cons}
-use Rattle.std.proofs.Common.{◌≡◌, ◌<◌, ◌+◌, length, get_or, drop, add-one, inl, inr, ℕ, suc, List, [], ◌∷◌, ◌++◌, map, Option, Some, None, Result, Ok, Err, refl, ap, sym, ◌∙◌, subst, arith, OnOk}
+use Rattle.std.proofs.Common.{◌≡◌, ◌<◌, ◌+◌, length, get_or, drop, add-one, inl, inr, ℕ, suc, List, [], ◌∷◌, Option, Some, None, Result, Ok, Err, refl, ap, sym, ◌∙◌, subst, arith, OnOk}
 use Rattle.fol_core.specs.Syntax.{PlainFormula}
 use Rattle.gs3_rules.specs.Rules.{Rule}
 use Rattle.gs3_rules.specs.Refutes.{RefutedBy, preorder}
 use Rattle.gs3_rules.specs.InTurn.{RefuteInTurn, StopAt}
-use Rattle.gs3_rules.proofs.InTurn.{refuted_in_turn, refuted_or_stops, stops_where_fails, step_once}
+use Rattle.gs3_rules.proofs.InTurn.{refuted_in_turn, refuted_or_stops, stops_where_fails}
 use Rattle.gs3_kernel.specs.Steps.{DoesStep}
 use Rattle.gs3_kernel.specs.Shared.{left_of, open_lists}
 use Rattle.gs3_rules.specs.Apply.{rule_of, rules_of}

@@ -5,3 +5,6 @@ mod check;
 mod open;
 
 pub use check::{CheckError, check_steps};
+
+#[cfg(test)]
+mod tests;

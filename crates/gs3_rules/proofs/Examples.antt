@@ -1,7 +1,7 @@
 -- The calculus on a small example.
 use Rattle.std.proofs.Common.{◌≡◌, List, [], ◌∷◌, ◌++◌, map, Some, refl, ap, sym, ◌∙◌, subst}
 use Rattle.fol_core.specs.Syntax.{PlainTerms, no_terms, PlainFormula, atom, not, imp}
-use Rattle.gs3_rules.specs.Rules.{Rule, close, beta, Step, AreOpposite}
+use Rattle.gs3_rules.specs.Rules.{close, beta, Step}
 use Rattle.gs3_rules.specs.Refutes.{ProofTree, by, no_premises, premise, Refutes, preorder, RefutedBy, IsWhole}
 use Rattle.gs3_rules.specs.InTurn.{RefuteInTurn}
 use Rattle.gs3_rules.proofs.InTurn.{refuted_in_turn}

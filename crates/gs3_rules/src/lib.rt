@@ -5,3 +5,6 @@ mod parts;
 mod step;
 
 pub use step::{ApplyError, Premises, Step, Steps, apply};
+
+#[cfg(test)]
+mod tests;

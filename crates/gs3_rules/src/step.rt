@@ -10,18 +10,27 @@ use containers::Items;
 use fol_core::{Formula, Formulas, Term, is_closed_term, occurs_param};
 use std::alloc::{AllocError, Global};
 
-/// A step names its principal formula by its place in the list, from 0.
+/// A step of a GS3 proof, which works on a growing list of closed formulas and keeps all of them. It names its principal
+/// formula by its place in the list, from 0.
 #[derive(Drop)]
 pub enum Step {
+    /// An atom and its negation close the branch.
     Close { atom: u32, negated: u32 },
+    /// `$false` closes the branch.
     FalseAt { place: u32 },
+    /// `~$true` closes the branch.
     NotTrue { place: u32 },
+    /// A conjunctive formula gives its parts: `~~A`, `A & B`, `~(A | B)` or `~(A => B)`.
     Alpha { place: u32 },
+    /// A disjunctive formula gives two branches: `A | B`, `~(A & B)`, `A => B`, `A <=> B` or `~(A <=> B)`.
     Beta { place: u32 },
+    /// `? X : A` or `~ ! X : A` gives its instance, or the negation of it, at a parameter that stands nowhere in the list.
     Delta { place: u32, param: u64 },
+    /// `! X : A` or `~ ? X : A` gives its instance, or the negation of it, at a closed term.
     Gamma { place: u32, term: Term },
 }
 
+/// A list of steps.
 pub type Steps = Items<Step>;
 
 /// What each premise of a step appends to the list.
@@ -167,7 +176,8 @@ fn gamma(alloc: Global, list: &Formulas, i: u32, term: &Term) -> Result<Premises
     }
 }
 
-/// What the step appends in each premise, where its condition holds on the list.
+/// What each premise of the step appends to the list. Wrong comes exactly where the step's condition fails on the list: a
+/// place that the list does not have, a formula of another form, a parameter that is not fresh or a term that is not closed.
 pub fn apply(alloc: Global, list: &Formulas, step: &Step) -> Result<Premises, ApplyError>
     ensures { Answers list.now (rule_of step.now) result }
 {

@@ -1,9 +1,8 @@
-use Rattle.std.proofs.Common.{◌≡◌, ◌≤◌, rules, ap, ◌∙◌, arith}
+use Rattle.std.proofs.Common.{◌≡◌, rules, arith}
 use Rattle.std.proofs.lemmas.Grind.{common_steps}
 use Rattle.fol_core.specs.Around.{plain_in_wrap}
 use Rattle.fol_core.specs.Syntax.{open_at}
 use Rattle.fol_core.specs.View.{term_of, formula_of}
-use Rattle.fol_core.specs.declared.formula.Formula.{size-Formula}
 use Rattle.fol_core.specs.declared.formula.Formula.TheViews.{the_lemmas}
 use Rattle.fol_core.proofs.Around.{plain_around_below}
 use Rattle.fol_core.proofs.Trees.{levels}

@@ -1,4 +1,4 @@
-use Rattle.std.proofs.Common.{◌≡◌, rules, ap, ◌∙◌}
+use Rattle.std.proofs.Common.{◌≡◌, rules}
 use Rattle.fol_core.specs.Around.{in_wrap}
 use Rattle.fol_core.specs.declared.formula.Formula.TheViews.{the_lemmas}
 use Rattle.fol_core.proofs.Around.{around_below, size_below}

@@ -2,7 +2,6 @@ use Rattle.std.proofs.Common.{◌≡◌, ◌<◌, ◌++◌, ◌∷◌, [], lengt
 use Rattle.fol_core.specs.Symbol.{IsSymbolName, IsNowhere}
 use Rattle.fol_core.specs.SymbolList.{AreNumbered, numbers_at, symbols_of, symbols_in, names_of}
 use Rattle.fol_core.specs.declared.numbering.Listed.{Listed}
-use Rattle.fol_core.specs.declared.numbering.Numbered.{Numbered}
 use Rattle.fol_core.proofs.SymbolLists.{pushed, pushed_symbols}
 use Rattle.fol_core.proofs.numbering.Numbering.add.Goals as goal
 
