@@ -1,6 +1,6 @@
-ghost use Rattle.std.specs.Prelude.{◌≡◌, ◌↔◌, suc, IsTrue, IfOk};
-ghost use Rattle.fol_core.specs.Syntax.{instance, free_in, IsClosed, IsClosedTerm, param_in};
-ghost use Rattle.fol_core.specs.View.{term_of, formula_of};
+ghost use Rattle.std.specs.Prelude.{◌≡◌, ◌↔◌, IsTrue, IfOk};
+ghost use Rattle.fol_core.specs.Syntax.{free_in, IsClosed, param_in};
+ghost use Rattle.fol_core.specs.View.{formula_of};
 
 use crate::spine::{Wrap, rebuilt};
 use crate::term;
@@ -9,20 +9,28 @@ use containers::{Boxed, Items};
 use std::alloc::{AllocError, Global};
 
 /// A formula of first-order logic without equality.
+///
+/// A formula may be deep to the left without a limit. Its functions go down the left part, `~` and quantifiers in a loop, and
+/// into the right part by a call.
 pub enum Formula {
     /// A predicate symbol's number and its arguments.
     Atom(u32, Items<Term>),
+    /// `$true`.
     Verum,
+    /// `$false`.
     Falsum,
     Not(Boxed<Formula>),
     And(Boxed<Formula>, Boxed<Formula>),
     Or(Boxed<Formula>, Boxed<Formula>),
     Imp(Boxed<Formula>, Boxed<Formula>),
     Iff(Boxed<Formula>, Boxed<Formula>),
+    /// `!`: the variable 0 of the body is its own.
     All(Boxed<Formula>),
+    /// `?`
     Ex(Boxed<Formula>),
 }
 
+/// A list of formulas.
 pub type Formulas = Items<Formula>;
 
 /// A chain nests to the left without a limit, so the left parts are let go in a loop and the right ones by calls.
@@ -72,7 +80,7 @@ impl Formula {
     }
 }
 
-/// Whether the two are equal.
+/// Whether the two are equal. It takes no memory.
 pub fn same(a: &Formula, b: &Formula) -> bool
     ensures { IsTrue result ↔ (a.now ≡ b.now) }
 {

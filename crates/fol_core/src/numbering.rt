@@ -1,4 +1,4 @@
-ghost use Rattle.std.specs.Prelude.{◌≡◌, ◌++◌, ◌∷◌, ◌↔◌, ◌<◌, ℕ, [], Some, None, length, slice_get, option_map, IsSome, IfSome, IfOk, OnOk, OnErr};
+ghost use Rattle.std.specs.Prelude.{◌≡◌, ◌++◌, ◌∷◌, [], length, slice_get, option_map, IfSome, IfOk, OnOk, OnErr};
 ghost use Rattle.std.specs.Option.{option_copied};
 ghost use Rattle.fol_core.specs.Symbol.{IsSymbolName, IsNumberOf, IsAt, IsNowhere, Interns};
 ghost use Rattle.fol_core.specs.SymbolList.{number_in, numbers_at};

@@ -1,22 +1,26 @@
-ghost use Rattle.std.specs.Prelude.{◌≡◌, ◌↔◌, max, IsTrue, IfOk};
+ghost use Rattle.std.specs.Prelude.{◌≡◌, ◌↔◌, IsTrue, IfOk};
 ghost use Rattle.fol_core.specs.Syntax.{open_term, open_terms, free_in_term, free_in_terms, IsClosedTerm, param_in_term, param_in_terms};
 ghost use Rattle.fol_core.specs.View.{term_of, terms_of};
 
 use containers::Items;
 use std::alloc::{AllocError, Global};
 
+/// A term of first-order logic.
 #[derive(Drop)]
 pub enum Term {
-    /// A bound variable, counted from the innermost quantifier.
+    /// A bound variable: the number of quantifiers between it and its own, so that 0 is the innermost one's.
     Bound(u32),
+    /// A parameter, which stands for one object and is written `#n`.
     Param(u64),
     /// A function symbol's number and its arguments.
     App(u32, Items<Term>),
 }
 
+/// A list of terms.
 pub type Terms = Items<Term>;
 
 impl Term {
+    /// An equal term.
     #[cycle(copy)]
     pub fn copy(&self, alloc: Global) -> Result<Term, AllocError>
         ensures { IfOk result (λ t. t ≡ self.now) }
@@ -129,6 +133,7 @@ pub(crate) fn same_term(a: &Term, b: &Term) -> bool
     }
 }
 
+/// Whether the two lists are equal. It takes no memory.
 #[cycle(same)]
 pub fn same_terms(a: &Items<Term>, b: &Items<Term>) -> bool
     ensures { IsTrue result ↔ (a.now ≡ b.now) }
@@ -144,6 +149,7 @@ pub fn same_terms(a: &Items<Term>, b: &Items<Term>) -> bool
     true
 }
 
+/// Whether no bound variable stands in the term. It takes no memory.
 pub fn is_closed_term(term: &Term) -> bool
     ensures { IsTrue result ↔ IsClosedTerm (term_of term.now) }
 {
