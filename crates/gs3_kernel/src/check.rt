@@ -6,12 +6,15 @@ use crate::open::{Open, advance, begin};
 use fol_core::Formulas;
 use gs3_rules::Steps;
 use std::alloc::{AllocError, Global};
+use thiserror::Error;
 
 /// Why the steps are no proof.
-#[derive(Clone, Copy, Debug, PartialEq, Eq)]
+#[derive(Clone, Copy, Debug, PartialEq, Eq, Error)]
 pub enum CheckError {
     /// The steps go wrong at this place, from 0.
+    #[error("the proof goes wrong at step {step}")]
     Wrong { step: u64 },
+    #[error("out of memory")]
     OutOfMemory,
 }
 

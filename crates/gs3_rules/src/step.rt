@@ -9,6 +9,7 @@ use crate::parts;
 use containers::Items;
 use fol_core::{Formula, Formulas, Term, is_closed_term, occurs_param};
 use std::alloc::{AllocError, Global};
+use thiserror::Error;
 
 /// A step of a GS3 proof, which works on a growing list of closed formulas and keeps all of them. It names its principal
 /// formula by its place in the list, from 0.
@@ -41,10 +42,12 @@ pub enum Premises {
     Two(Formulas, Formulas),
 }
 
-#[derive(Clone, Copy, Debug, PartialEq, Eq)]
+/// Why a step gives no premises.
+#[derive(Clone, Copy, Debug, PartialEq, Eq, Error)]
 pub enum ApplyError {
-    /// The step's condition fails.
+    #[error("the step's condition fails")]
     Wrong,
+    #[error("out of memory")]
     OutOfMemory,
 }
 
