@@ -1,0 +1,7 @@
+pub mod Trees
+pub mod Injective
+pub mod Around
+pub mod Depth
+pub mod SymbolLists
+pub mod Grown
+pub mod Examples

@@ -1,0 +1,10 @@
+//! One step of the calculus GS3.
+#![tactic(auto)]
+
+mod parts;
+mod step;
+
+pub use step::{ApplyError, Premises, Step, Steps, apply};
+
+#[cfg(test)]
+mod tests;
