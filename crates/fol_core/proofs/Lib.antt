@@ -3,4 +3,5 @@ pub mod Injective
 pub mod Around
 pub mod Depth
 pub mod SymbolLists
+pub mod KeptSymbols
 pub mod Grown
