@@ -1,0 +1,8 @@
+mod Rows
+pub mod Feeds
+pub mod Options
+pub mod Numbers
+pub mod Names
+pub mod Quotes
+pub mod Spellings
+pub mod Written

@@ -1,0 +1,3 @@
+pub mod ProofText
+pub mod Reading
+pub mod Spelled
