@@ -5,4 +5,6 @@ pub mod Numbers
 pub mod Names
 pub mod Quotes
 pub mod Spellings
+pub mod Terms
+pub mod Arguments
 pub mod Written

@@ -3,7 +3,9 @@
 
 mod fault;
 mod spelling;
+mod step;
 mod table;
+mod term;
 mod tree;
 mod word;
 mod writing;

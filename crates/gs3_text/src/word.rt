@@ -1,9 +1,19 @@
-ghost use Rattle.std.specs.Prelude.{◌≡◌, ◌≤◌, ◌<◌, ◌^◌, suc, MatchOption, length, option_map};
+ghost use Rattle.std.specs.Prelude.{◌≡◌, ◌≤◌, ◌<◌, [], ◌∷◌, ◌^◌, suc, MatchOption, IfOk, length, option_map};
 ghost use Rattle.std.specs.List.{prefix_len};
 ghost use Rattle.gs3_text.specs.Reading.{Gives, strip, is_digit, value_after, number_of, number_at, place_at, quoted_at, spelling_at};
 ghost use Rattle.fol_core.specs.Spelling.{is_word_byte};
 
 use crate::fault::Fault;
+
+/// The first byte and those behind it.
+pub(crate) fn front(bytes: &[u8]) -> Option<(u8, &[u8])>
+    ensures { MatchOption result (bytes.now ≡ []) (λ x. bytes.now ≡ x.0 ∷ x.1.now) }
+{
+    match bytes {
+        [] => None,
+        [first, rest @ ..] => Some((*first, rest)),
+    }
+}
 
 /// The bytes behind the word.
 #[tactic(auto, unfolding(crate::specs::Reading::strip))]
@@ -46,7 +56,8 @@ fn value(digits: &[u8]) -> Option<u64>
 
 #[tactic(auto, unfolding(crate::specs::Reading::number_of))]
 fn number_of(digits: &[u8], most: u64) -> Result<u64, Fault>
-    ensures { Gives (λ n. n) result (number_of (suc most) digits.now) }
+    ensures read { Gives (λ n. n) result (number_of (suc most) digits.now) }
+    ensures within { IfOk result (λ n. n ≤ most) }
 {
     match digits {
         [] | [48, _, ..] => Err(Fault::Malformed),
@@ -60,7 +71,8 @@ fn number_of(digits: &[u8], most: u64) -> Result<u64, Fault>
 /// A number at the front, of digits without a leading zero.
 #[tactic(auto, unfolding(crate::specs::Reading::number_at))]
 pub(crate) fn number_at(bytes: &[u8], most: u64) -> Result<(u64, &[u8]), Fault>
-    ensures { Gives (λ x. (x.0, x.1.now)) result (number_at (suc most) bytes.now) }
+    ensures read { Gives (λ x. (x.0, x.1.now)) result (number_at (suc most) bytes.now) }
+    ensures within { IfOk result (λ x. x.0 ≤ most) }
 {
     let (front, rest) = bytes.split_at(digits(bytes));
     Ok((number_of(front, most)?, rest))
