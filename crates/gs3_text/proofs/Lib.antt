@@ -7,4 +7,9 @@ pub mod Quotes
 pub mod Spellings
 pub mod Terms
 pub mod Arguments
+pub mod Lines
+pub mod Shapes
+pub mod Cuts
 pub mod Written
+pub mod Scans
+pub mod Texts

@@ -17,11 +17,11 @@ says_line functions (beta i) = refl
 says_line functions (delta i n) = refl
 says_line functions (gamma i t) = refl
 
-all_said : (functions : List Symbol) (rules : List Rule) → filter says (map (line_of functions) rules) ≡ map (line_of functions) rules
+pub all_said : (functions : List Symbol) (rules : List Rule) → filter says (map (line_of functions) rules) ≡ map (line_of functions) rules
 all_said functions [] = refl
 all_said functions (rule ∷ rules) = rw (says_line functions rule) (ap (λ ls. line_of functions rule ∷ ls) (all_said functions rules))
 
-all_lines : (functions : List Symbol) → NamesAreLines functions → (rules : List Rule) → AllByRecursion (IsSpellable functions) rules → AllByRecursion IsLine (map (line_of functions) rules)
+pub all_lines : (functions : List Symbol) → NamesAreLines functions → (rules : List Rule) → AllByRecursion (IsSpellable functions) rules → AllByRecursion IsLine (map (line_of functions) rules)
 all_lines functions names [] h = tt
 all_lines functions names (rule ∷ rules) h = (line_is_line functions names rule h.0, all_lines functions names rules h.1)
 

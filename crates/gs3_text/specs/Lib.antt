@@ -1,3 +1,4 @@
 pub mod ProofText
 pub mod Reading
 pub mod Spelled
+pub mod Scanning

@@ -110,3 +110,10 @@ pub record IsMalformedAt (functions : List Symbol) (bytes : List ℕ) (line : �
   -- this one does not
   pub stops : good < length lines → CanGoOn functions (take (suc good) lines) → ⊥
   pub ends : good ≡ length lines → (0 < length rest) ⊎ ((tree : ProofTree) → AreLinesOf functions lines tree → ⊥)
+
+-- The bytes are a text of the proof tree with these steps, and each step stands in the line with its number.
+pub record IsReading (functions : List Symbol) (bytes : List ℕ) (steps : List Rule) (numbers : List ℕ) : Type 0 where
+  pub tree : ProofTree
+  pub text : ProofText functions bytes tree
+  pub are : preorder tree ≡ steps
+  pub stand : numbers ≡ step_lines text.lines
