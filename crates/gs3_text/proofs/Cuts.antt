@@ -1,7 +1,9 @@
 -- A text is cut into its lines in one way.
-use Rattle.std.proofs.Common.{◌≡◌, ℕ, suc, ◌+◌, ◌<◌, Bool, true, false, ◌||◌, eqb, List, [], ◌∷◌, ◌++◌, length, refl, ap, sym, ◌∙◌, subst, arith, append_assoc}
+use Rattle.std.proofs.Common.{◌≡◌, ℕ, suc, ◌+◌, ◌<◌, ◌≤◌, Bool, true, false, ◌||◌, eqb, List, [], ◌∷◌, ◌++◌, take, drop, get_or, length, refl, ap, sym, ◌∙◌, subst, arith, append_assoc, length-append, take-append-drop}
 use Rattle.std.specs.List.{AllByRecursion}
-use Rattle.std.proofs.lemmas.Bool.{or_parts, or_from, or_right, eqb-true, false≢true}
+use Rattle.std.proofs.lemmas.Bool.{or_parts, or_from, or_right, eqb-true, false≢true, false_from_ne_true}
+use Rattle.std.proofs.lemmas.List.{take_more, drop_more}
+use Rattle.gs3_text.proofs.Feeds.{IsLine-append}
 use Rattle.gs3_text.specs.ProofText.{has_feed, IsLine, text_of}
 use Rattle.gs3_text.proofs.Shapes.{heads, tails}
 
@@ -67,3 +69,17 @@ cut_byte c bytes false e more = cut_onto c e bytes more.lines more.rest more.tex
 pub cut : (bytes : List ℕ) → IsCut bytes
 cut [] = record { lines = []; rest = []; text = refl; whole = tt; rest_is_line = refl }
 cut (c ∷ bytes) = cut_byte c bytes (eqb c 10) refl (cut bytes)
+
+-- Looking for a line feed
+
+pub feed_step : (bytes : List ℕ) (i : ℕ) → i < length bytes → IsLine (take i bytes) → (get_or bytes i 0 ≡ 10 → ⊥) → IsLine (take (i + 1) bytes)
+feed_step bytes i within p ne =
+    rw (take_more bytes i 0 within) (IsLine-append (take i bytes) (get_or bytes i 0 ∷ []) p (or_from (eqb (get_or bytes i 0) 10) false (false_from_ne_true _ (λ e. ne (eqb-true (get_or bytes i 0) 10 e))) refl))
+
+pub feed_at : (bytes : List ℕ) (i : ℕ) → i < length bytes → get_or bytes i 0 ≡ 10 → bytes ≡ take i bytes ++ 10 ∷ drop (i + 1) bytes
+feed_at bytes i within e = sym (take-append-drop i bytes) ∙ ap (λ bs. take i bytes ++ bs) (drop_more bytes i 0 within ∙ ap (λ b. b ∷ drop (i + 1) bytes) e)
+
+-- each line has its line feed
+pub lines_short : (lines : List (List ℕ)) → length lines ≤ length (text_of lines)
+lines_short [] = omega arith
+lines_short (line ∷ lines) = omega (arith, lines_short lines, length-append (line ++ 10 ∷ []) (text_of lines), length-append line (10 ∷ []))

@@ -103,8 +103,8 @@ by_word : (functions : List Symbol) (word line : List ℕ) (f : List ℕ → Opt
     → behind (strip word line) f other ≡ Some rule → IsLineOf functions line rule
 by_word functions word line f other rule here there e =
     elim (behind_cases (strip word line) f other rule e) [
-      inl found ↦ subst (λ line. IsLineOf functions line rule) (sym (strip_takes word line found.0 found.1)) (here found.0 found.2)
-    | inr more ↦ there more
+      | inl found ↦ subst (λ line. IsLineOf functions line rule) (sym (strip_takes word line found.0 found.1)) (here found.0 found.2)
+      | inr more ↦ there more
     ]
 
 -- A step that was read is spelled so.

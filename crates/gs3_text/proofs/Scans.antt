@@ -152,10 +152,13 @@ comes_line functions symbols n j left s line lines [] true is owes said spellabl
 comes_line functions symbols n zero left s line lines (rule ∷ steps) true is owes said spellable counted rest = absurd (none-some left counted)
 comes_line functions symbols n (suc others) left s line lines (rule ∷ steps) true is owes said spellable counted rest =
     let more = rest (others + premises_of rule) (with_step n others s rule) steps refl (tails line (line_of functions rule) (filter says lines) (map (line_of functions) steps) said) spellable.1 counted in
-    let read = ap (step_of functions) (heads line (line_of functions rule) (filter says lines) (map (line_of functions) steps) said) ∙ step_again functions symbols rule spellable.0 in
-    (more.0, ap (λ b. cond b (said_by functions n line s.owed s) (Some s) >>= λ t. scan functions (suc n) t lines) is
-        ∙ ap (λ o. said_by functions n line o s >>= λ t. scan functions (suc n) t lines) owes
-        ∙ ap (λ o. (o >>= λ rule. Some (with_step n others s rule)) >>= λ t. scan functions (suc n) t lines) read ∙ more.1, more.2)
+    let read = ap (step_of functions) (heads line (line_of functions rule) (filter says lines) (map (line_of functions) steps) said) ∙ step_again functions symbols rule spellable.0 in (
+      more.0,
+      ap (λ b. cond b (said_by functions n line s.owed s) (Some s) >>= λ t. scan functions (suc n) t lines) is
+          ∙ ap (λ o. said_by functions n line o s >>= λ t. scan functions (suc n) t lines) owes
+          ∙ ap (λ o. (o >>= λ rule. Some (with_step n others s rule)) >>= λ t. scan functions (suc n) t lines) read ∙ more.1,
+      more.2,
+    )
 
 pub steps_come : (functions : List Symbol) → AreSymbols functions → (lines : List (List ℕ)) (steps : List Rule) (n j left : ℕ) (s : Scan) → s.owed ≡ Some j → filter says lines ≡ map (line_of functions) steps → AllByRecursion (IsSpellable functions) steps → owed_after j steps ≡ Some left → Comes functions n s lines left
 steps_come functions symbols [] [] n j left s owes said spellable counted = (s, refl, owes ∙ counted)
@@ -173,9 +176,12 @@ head_line functions symbols n left line lines steps false is said spellable coun
     (more.0, ap (λ b. cond b (said_by functions n line None start) (Some start) >>= λ t. scan functions (suc n) t lines) is ∙ more.1, more.2)
 head_line functions symbols n left line lines steps true is said spellable counted rest =
     let more = steps_come functions symbols lines steps (suc n) 1 left headed refl (tails line heading (filter says lines) (map (line_of functions) steps) said) spellable counted in
-    let head = (bytes_eq-Decides line heading).1 (heads line heading (filter says lines) (map (line_of functions) steps) said) in
-    (more.0, ap (λ b. cond b (said_by functions n line None start) (Some start) >>= λ t. scan functions (suc n) t lines) is
-        ∙ ap (λ b. cond b (Some headed) None >>= λ t. scan functions (suc n) t lines) head ∙ more.1, more.2)
+    let head = (bytes_eq-Decides line heading).1 (heads line heading (filter says lines) (map (line_of functions) steps) said) in (
+      more.0,
+      ap (λ b. cond b (said_by functions n line None start) (Some start) >>= λ t. scan functions (suc n) t lines) is
+          ∙ ap (λ b. cond b (Some headed) None >>= λ t. scan functions (suc n) t lines) head ∙ more.1,
+      more.2,
+    )
 
 pub proof_comes : (functions : List Symbol) → AreSymbols functions → (lines : List (List ℕ)) (steps : List Rule) (n left : ℕ) → filter says lines ≡ proof_lines functions steps → AllByRecursion (IsSpellable functions) steps → owed_after 1 steps ≡ Some left → Comes functions n start lines left
 proof_comes functions symbols [] steps n left said spellable counted = absurd (no_cons heading (map (line_of functions) steps) (sym said))

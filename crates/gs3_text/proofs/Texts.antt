@@ -44,12 +44,16 @@ closing_spellable functions (suc k) = ((lit< tt, tt), closing_spellable function
 
 -- the lines, and behind them the lines of the steps
 goes_on : (functions : List Symbol) (lines more : List (List ℕ)) (steps : List Rule) → AllByRecursion IsLine lines → AllByRecursion IsLine more → filter says (lines ++ more) ≡ proof_lines functions steps → AllByRecursion (IsSpellable functions) steps → IsWhole steps → CanGoOn functions lines
-goes_on functions lines more steps p q said spellable whole = (more, whole.0, record {
-  whole = lines-append lines more p q;
-  said = said ∙ ap (proof_lines functions) (sym whole.2);
-  shaped = whole.1;
-  spellable = subst (AllByRecursion (IsSpellable functions)) (sym whole.2) spellable;
-})
+goes_on functions lines more steps p q said spellable whole = (
+  more,
+  whole.0,
+  record {
+    whole = lines-append lines more p q;
+    said = said ∙ ap (proof_lines functions) (sym whole.2);
+    shaped = whole.1;
+    spellable = subst (AllByRecursion (IsSpellable functions)) (sym whole.2) spellable;
+  },
+)
 
 go_on_case : (functions : List Symbol) (lines : List (List ℕ)) (t : Scan) → AllByRecursion IsLine lines → Front functions 1 lines t → CanGoOn functions lines
 go_on_case functions lines t whole (nothing said owes) =
@@ -165,10 +169,10 @@ malformed_no_text functions bytes line m tree p =
     let same = one_cut m.lines p.lines m.rest [] m.whole p.of_tree.whole m.rest_is_line refl (sym m.text ∙ p.text ∙ sym (append-nil (text_of p.lines))) in
     let are = subst (λ ls. AreLinesOf functions ls tree) (sym same.0) p.of_tree in
     elim (cases_order m.good (length m.lines)) [
-      inl e ↦ elim (m.ends e) [ inl some ↦ omega (arith, some, ap length same.1) | inr none ↦ none tree are ]
-    | inr other ↦ elim other [
-        inl lt ↦ m.stops lt (drop (suc m.good) m.lines, tree, subst (λ ls. AreLinesOf functions ls tree) (sym (take-append-drop (suc m.good) m.lines)) are)
-      | inr gt ↦ omega (arith, gt, m.within)
+      | inl e ↦ elim (m.ends e) [ inl some ↦ omega (arith, some, ap length same.1) | inr none ↦ none tree are ]
+      | inr other ↦ elim other [
+        | inl lt ↦ m.stops lt (drop (suc m.good) m.lines, tree, subst (λ ls. AreLinesOf functions ls tree) (sym (take-append-drop (suc m.good) m.lines)) are)
+        | inr gt ↦ omega (arith, gt, m.within)
       ]
     ]
 

@@ -2,3 +2,4 @@ pub mod ProofText
 pub mod Reading
 pub mod Spelled
 pub mod Scanning
+pub mod Answer

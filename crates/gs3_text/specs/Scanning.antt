@@ -21,12 +21,16 @@ abbrev pub with_step : ℕ → ℕ → Scan → Rule → Scan
 with_step number others s rule =
     record { owed = Some (others + premises_of rule); rules = s.rules ++ rule ∷ []; numbers = s.numbers ++ number ∷ [] }
 
+-- a step's line, where that many other premises need a proof
+abbrev pub step_scan : List Symbol → ℕ → List ℕ → ℕ → Scan → Option Scan
+step_scan functions number line others s = step_of functions line >>= λ rule. Some (with_step number others s rule)
+
 -- a line that says something, where that many premises need a proof
 unfoldable pub said_by : List Symbol → ℕ → List ℕ → Option ℕ → Scan → Option Scan
 said_by functions number line None s =
     if bytes_eq line heading then Some (record { owed = Some 1; rules = s.rules; numbers = s.numbers }) else None
 said_by functions number line (Some zero) s = None
-said_by functions number line (Some (suc others)) s = step_of functions line >>= λ rule. Some (with_step number others s rule)
+said_by functions number line (Some (suc others)) s = step_scan functions number line others s
 
 -- the line with this number
 unfoldable pub next_scan : List Symbol → ℕ → List ℕ → Scan → Option Scan

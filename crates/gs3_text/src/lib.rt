@@ -2,6 +2,9 @@
 #![tactic(auto)]
 
 mod fault;
+mod law;
+mod reading;
+mod scan;
 mod spelling;
 mod step;
 mod table;
@@ -10,5 +13,8 @@ mod tree;
 mod word;
 mod writing;
 
+pub use law::one_tree;
+pub use reading::{ReadTree, TextError, read_tree};
+pub use scan::Lines;
 pub use tree::{Tree, tree_of};
 pub use writing::write_tree;
