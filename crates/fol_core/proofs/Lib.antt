@@ -5,3 +5,4 @@ pub mod Depth
 pub mod SymbolLists
 pub mod KeptSymbols
 pub mod Grown
+pub mod Examples

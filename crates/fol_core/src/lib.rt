@@ -14,3 +14,6 @@ pub use instance::instantiate;
 pub use spelling::{spell_symbol, spell_term};
 pub use symbols::Symbols;
 pub use term::{Term, Terms, is_closed_term, same_terms};
+
+#[cfg(test)]
+mod tests;
