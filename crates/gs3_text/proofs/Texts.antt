@@ -7,7 +7,7 @@ use Rattle.std.proofs.lemmas.Option.{none-some, same_Some}
 use Rattle.fol_core.specs.Symbol.{Symbol, AreSymbols}
 use Rattle.gs3_rules.specs.Rules.{Rule, false_at}
 use Rattle.gs3_rules.specs.Refutes.{ProofTree, preorder, HasShape, IsWhole}
-use Rattle.gs3_text.specs.ProofText.{heading, line_of, proof_lines, text_of, says, IsLine, IsSpellable, step_lines, AreLinesOf, ProofText, CanGoOn, IsMalformedAt, IsReading}
+use Rattle.gs3_text.specs.ProofText.{heading, line_of, proof_lines, text_of, says, IsLine, IsSpellable, IsSpellableTerm, step_lines, AreLinesOf, ProofText, CanGoOn, IsMalformedAt, IsReading}
 use Rattle.gs3_text.specs.Scanning.{Scan, start, next_scan}
 use Rattle.gs3_text.specs.Reading.{step_of, ◌>>=◌}
 use Rattle.gs3_text.proofs.Feeds.{decimal_is_line}
@@ -192,3 +192,12 @@ one_tree functions symbols bytes s t p q =
     let lines = sym p.of_tree.said ∙ ap (filter says) same.0 ∙ q.of_tree.said in
     one_tree_of s t p.of_tree.shaped q.of_tree.shaped
     (same_steps functions symbols (preorder s) (preorder t) p.of_tree.spellable q.of_tree.spellable (tails heading heading (map (line_of functions) (preorder s)) (map (line_of functions) (preorder t)) lines))
+
+terms_spellable : (functions : List Symbol) (rules : List Rule) → AllByRecursion (IsSpellable functions) rules → AllByRecursion (IsSpellableTerm functions) rules
+terms_spellable functions [] p = tt
+terms_spellable functions (rule ∷ rules) p = (p.0.1, terms_spellable functions rules p.1)
+
+-- What was read can be written.
+pub reading_spellable : (functions : List Symbol) (bytes : List ℕ) (steps : List Rule) (numbers : List ℕ) → IsReading functions bytes steps numbers → AllByRecursion (IsSpellableTerm functions) steps
+reading_spellable functions bytes steps numbers p =
+    subst (AllByRecursion (IsSpellableTerm functions)) p.are (terms_spellable functions (preorder p.tree) p.text.of_tree.spellable)

@@ -18,3 +18,6 @@ pub use reading::{ReadTree, TextError, read_tree};
 pub use scan::Lines;
 pub use tree::{Tree, tree_of};
 pub use writing::write_tree;
+
+#[cfg(test)]
+mod tests;

@@ -1,7 +1,8 @@
 ghost use Rattle.std.specs.Prelude.{◌≡◌, IfOk, IfErr};
 ghost use Rattle.gs3_rules.specs.Apply.{rules_of};
 ghost use Rattle.gs3_text.specs.Answer.{IsRefused};
-ghost use Rattle.gs3_text.specs.ProofText.{IsReading};
+ghost use Rattle.gs3_text.specs.ProofText.{IsReading, IsSpellableTerm};
+ghost use Rattle.std.specs.List.{AllByRecursion};
 
 use crate::fault::Fault;
 use crate::scan::{Lines, Scan};
@@ -54,6 +55,7 @@ fn scan_all(alloc: Global, symbols: &Symbols, bytes: &[u8]) -> Result<Scan, Text
 /// The proof of which the bytes are a text.
 pub fn read_tree(alloc: Global, symbols: &Symbols, bytes: &[u8]) -> Result<ReadTree, TextError>
     ensures read { IfOk result (λ r. IsReading symbols.now.functions bytes.now (rules_of r.tree) r.lines) }
+    ensures spellable { IfOk result (λ r. AllByRecursion (IsSpellableTerm symbols.now.functions) (rules_of r.tree)) }
     ensures refused { IfErr result (IsRefused symbols.now.functions bytes.now) }
 {
     match scan_all(alloc, symbols, bytes) {
