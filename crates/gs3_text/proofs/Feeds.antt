@@ -1,14 +1,12 @@
 -- No step's line holds a line feed, where no name of a function symbol does.
-use Rattle.std.proofs.Common.{◌≡◌, ℕ, ◌<◌, ◌^◌, ◌+◌, ◌%◌, suc, Bool, true, false, ◌||◌, ◌&&◌, eqb, cond, List, [], ◌∷◌, ◌++◌, codes, slice_get, Option, Some, None, refl, ap, sym, ◌∙◌, arith, Decides}
+use Rattle.std.proofs.Common.{◌≡◌, ℕ, ◌<◌, ◌^◌, ◌+◌, ◌%◌, Bool, true, false, ◌||◌, eqb, cond, List, [], ◌∷◌, ◌++◌, codes, refl, arith}
 use Rattle.std.specs.Fmt.{decimal}
-use Rattle.std.specs.List.{AllByRecursion, flat_map}
-use Rattle.std.specs.Str.{all_ascii_digits}
+use Rattle.std.specs.List.{flat_map}
 use Rattle.std.proofs.lemmas.Bool.{or_from, or_parts, false_from_ne_true, eqb-true}
-use Rattle.std.proofs.lemmas.Bool.Decides.{nat_tests}
 use Rattle.std.proofs.lemmas.Fmt.{decimal_by_steps}
 use Rattle.fol_core.specs.Symbol.{Symbol}
 use Rattle.fol_core.specs.Syntax.{PlainTerm, PlainTerms, bound, param, app, no_terms, terms}
-use Rattle.fol_core.specs.Spelling.{is_lower_word, is_word_byte, escaped, spelled_symbol, name_in, name_of, spelled, spelled_arguments, spelled_rest, IsOver, AreOver, HasArity, count}
+use Rattle.fol_core.specs.Spelling.{is_lower_word, escaped, spelled_symbol, name_in, spelled, spelled_arguments, spelled_rest, IsOver, AreOver}
 use Rattle.gs3_rules.specs.Rules.{Rule, close, false_at, not_true, alpha, beta, delta, gamma}
 use Rattle.gs3_text.specs.ProofText.{has_feed, line_of, IsLine, IsSpellable}
 

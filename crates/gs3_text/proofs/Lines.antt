@@ -1,13 +1,12 @@
 -- Reading a step's line, and reading it again.
-use Rattle.std.proofs.Common.{◌≡◌, ℕ, ◌^◌, ◌<◌, ◌≤◌, Bool, true, false, cond, List, [], ◌∷◌, ◌++◌, take, drop, length, codes, Option, Some, None, option_map, ◌⊎◌, inl, inr, refl, ap, sym, ◌∙◌, subst, arith, append_assoc, take-append-drop}
+use Rattle.std.proofs.Common.{◌≡◌, ℕ, ◌^◌, ◌<◌, ◌≤◌, List, [], ◌∷◌, ◌++◌, take, drop, length, codes, Option, Some, None, option_map, ◌⊎◌, inl, inr, refl, ap, sym, ◌∙◌, subst, arith, append_assoc, take-append-drop}
 use Rattle.std.specs.Fmt.{decimal}
 use Rattle.std.specs.Str.{bytes_eq}
-use Rattle.std.proofs.lemmas.List.{append-nil, take_at, drop_at}
-use Rattle.std.proofs.lemmas.Option.{none-some, same_Some, some_pair_parts, cond_some}
+use Rattle.std.proofs.lemmas.List.{append-nil}
+use Rattle.std.proofs.lemmas.Option.{none-some, same_Some, cond_some}
 use Rattle.std.proofs.lemmas.Slice.Eq.{bytes_eq-Decides}
 use Rattle.fol_core.specs.Symbol.{Symbol, AreSymbols}
-use Rattle.fol_core.specs.Syntax.{PlainTerm}
-use Rattle.fol_core.specs.Spelling.{spelled, IsOver, depth}
+use Rattle.fol_core.specs.Spelling.{spelled}
 use Rattle.gs3_rules.specs.Rules.{Rule, close, false_at, not_true, alpha, beta, delta, gamma}
 use Rattle.gs3_text.specs.ProofText.{line_of, IsPlace, IsSpellable}
 use Rattle.gs3_text.specs.Reading.{Read, strip, whole, number_at, place_at, term_at, close_of, delta_of, gamma_of, behind, step_of, ◌>>=◌}

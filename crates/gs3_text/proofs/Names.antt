@@ -1,13 +1,13 @@
 -- What a symbol list gives.
-use Rattle.std.proofs.Common.{◌≡◌, ℕ, zero, suc, ◌<◌, ◌≤◌, Bool, true, false, ◌&&◌, cond, List, [], ◌∷◌, length, slice_get, eqb, Option, Some, None, option_map, refl, ap, sym, ◌∙◌, eq-eqb, arith}
+use Rattle.std.proofs.Common.{◌≡◌, ℕ, zero, suc, ◌≤◌, Bool, true, false, ◌&&◌, cond, List, [], ◌∷◌, slice_get, eqb, Option, Some, None, option_map, refl, ap, sym, ◌∙◌, eq-eqb, arith}
 use Rattle.std.specs.List.{All}
 use Rattle.std.specs.Str.{bytes_eq}
 use Rattle.std.proofs.lemmas.Bool.{or_from, false_from_ne_true, eqb-true, and_parts, and_from}
 use Rattle.std.proofs.lemmas.List.Elements.{All-head, All-tail}
 use Rattle.std.proofs.lemmas.Option.{same_Some, none-some}
 use Rattle.std.proofs.lemmas.Slice.Eq.{bytes_eq-Decides}
-use Rattle.fol_core.specs.Symbol.{Symbol, IsSymbolName, IsAt, IsNowhere, IsNumberOf, AreSymbols}
-use Rattle.fol_core.specs.Spelling.{name_in, name_of}
+use Rattle.fol_core.specs.Symbol.{Symbol, IsSymbolName, IsAt, IsNumberOf, AreSymbols}
+use Rattle.fol_core.specs.Spelling.{name_of}
 use Rattle.gs3_text.specs.ProofText.{IsLine}
 use Rattle.gs3_text.specs.Reading.{place_in}
 use Rattle.gs3_text.proofs.Feeds.{NamesAreLines}

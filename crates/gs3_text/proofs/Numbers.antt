@@ -1,5 +1,5 @@
 -- What digits are worth, and reading a number again.
-use Rattle.std.proofs.Common.{◌≡◌, ℕ, zero, suc, ◌+◌, ◌-◌, ◌*◌, ◌^◌, ◌<◌, ◌≤◌, Bool, true, false, ◌&&◌, ◌||◌, cond, eqb, leb, inl, inr, List, [], ◌∷◌, ◌++◌, length, get_or, take, drop, Option, Some, None, option_map, refl, ap, sym, ◌∙◌, subst, arith, take-append-drop}
+use Rattle.std.proofs.Common.{◌≡◌, ℕ, zero, suc, ◌+◌, ◌-◌, ◌*◌, ◌^◌, ◌<◌, ◌≤◌, Bool, true, false, ◌&&◌, cond, eqb, leb, inl, inr, List, [], ◌∷◌, ◌++◌, length, get_or, take, drop, Some, None, option_map, refl, ap, sym, ◌∙◌, subst, arith, take-append-drop}
 use Rattle.std.specs.Fmt.{decimal}
 use Rattle.std.specs.Int.{IsInRange}
 use Rattle.std.specs.List.{prefix_len, list_all}
@@ -8,8 +8,8 @@ use Rattle.std.proofs.lemmas.Fmt.{digits_decimal, digits_value-decimal, decimal-
 use Rattle.std.proofs.lemmas.List.{drop_more, take_at, drop_at}
 use Rattle.std.proofs.lemmas.Option.{none-some, same_Some, some_pair_parts}
 use Rattle.gs3_text.proofs.Options.{option_map_some}
-use Rattle.std.proofs.lemmas.Str.Parse.{IsNumeralModel, IsDigitsTest, FoldsDigits, numerals_by_fold}
-use Rattle.gs3_text.specs.Reading.{Read, value_after, is_digit, number_of, number_at}
+use Rattle.std.proofs.lemmas.Str.Parse.{IsNumeralModel, IsDigitsTest, numerals_by_fold}
+use Rattle.gs3_text.specs.Reading.{value_after, is_digit, number_of, number_at}
 
 pub value_grows : (n : ℕ) (ds : List ℕ) → n ≤ value_after n ds
 value_grows n [] = omega arith

@@ -1,5 +1,5 @@
 -- Reading what stands in quotes, and reading it again.
-use Rattle.std.proofs.Common.{◌≡◌, ℕ, ◌+◌, ◌<◌, Bool, true, false, not, ◌&&◌, ◌||◌, cond, eqb, List, [], ◌∷◌, ◌++◌, take, drop, length, get_or, Option, Some, None, option_map, refl, ap, sym, ◌∙◌, append_assoc}
+use Rattle.std.proofs.Common.{◌≡◌, ℕ, ◌+◌, ◌<◌, Bool, true, false, not, ◌&&◌, cond, eqb, List, [], ◌∷◌, ◌++◌, take, drop, length, get_or, Option, Some, None, option_map, refl, ap, sym, ◌∙◌, append_assoc}
 use Rattle.std.specs.List.{flat_map}
 use Rattle.std.specs.Bool.{beq}
 use Rattle.std.specs.Cmp.{booleans_Decides}
@@ -8,7 +8,7 @@ use Rattle.std.proofs.lemmas.Option.{none-some, same_Some, some_pair_parts}
 use Rattle.gs3_text.proofs.Options.{option_map_some}
 use Rattle.std.proofs.lemmas.List.{drop_more, take_more}
 use Rattle.fol_core.specs.Spelling.{escaped}
-use Rattle.gs3_text.specs.Reading.{Read, onto, is_escape, quoted_at, unescaped, is_escaped}
+use Rattle.gs3_text.specs.Reading.{onto, is_escape, quoted_at, unescaped, is_escaped}
 
 pub onto-onto : {X A : Type 0} (xs ys : List X) (o : Option (List X × A)) → onto xs (onto ys o) ≡ onto (xs ++ ys) o
 onto-onto xs ys None = refl

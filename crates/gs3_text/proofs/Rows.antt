@@ -1,11 +1,9 @@
 -- The definitions at whole texts.
-use Rattle.std.proofs.Common.{◌≡◌, ℕ, List, [], ◌∷◌, ◌++◌, codes, refl, lit<}
+use Rattle.std.proofs.Common.{ℕ, List, [], ◌∷◌, codes, refl, lit<}
 use Rattle.std.specs.Fmt.{digits}
-use Rattle.fol_core.specs.Symbol.{Symbol}
-use Rattle.fol_core.specs.Syntax.{param, app, no_terms, terms}
-use Rattle.gs3_rules.specs.Rules.{Rule, close, false_at, not_true, alpha, beta, delta, gamma}
-use Rattle.gs3_rules.specs.Refutes.{ProofTree, by, Premises, no_premises, premise, preorder}
-use Rattle.gs3_text.specs.ProofText.{ProofText, AreLinesOf, text_of, proof_lines, step_lines, line_of}
+use Rattle.gs3_rules.specs.Rules.{Rule, close, beta}
+use Rattle.gs3_rules.specs.Refutes.{ProofTree, by, Premises, no_premises, premise}
+use Rattle.gs3_text.specs.ProofText.{AreLinesOf}
 
 leaf : Rule → Premises
 leaf rule = premise (by rule no_premises) no_premises

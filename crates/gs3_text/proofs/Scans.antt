@@ -1,21 +1,19 @@
 -- What it says that lines were read, and that the lines of a proof are read.
-use Rattle.std.proofs.Common.{◌≡◌, ℕ, zero, suc, ◌+◌, ◌^◌, ◌<◌, Bool, true, false, cond, List, [], ◌∷◌, ◌++◌, map, drop, length, Option, Some, None, ◌⊎◌, inl, inr, refl, ap, sym, ◌∙◌, subst, arith, append_assoc, lit<}
+use Rattle.std.proofs.Common.{◌≡◌, ℕ, zero, suc, ◌+◌, Bool, true, false, cond, List, [], ◌∷◌, ◌++◌, map, drop, length, Option, Some, None, refl, ap, sym, ◌∙◌, subst, arith, append_assoc}
 use Rattle.std.specs.List.{AllByRecursion, filter}
 use Rattle.std.specs.Str.{bytes_eq}
-use Rattle.std.proofs.lemmas.List.{append-nil, map-append}
+use Rattle.std.proofs.lemmas.List.{append-nil}
 use Rattle.std.proofs.lemmas.Option.{none-some, same_Some, cond_some}
 use Rattle.std.proofs.lemmas.Slice.Eq.{bytes_eq-Decides}
 use Rattle.fol_core.specs.Symbol.{Symbol, AreSymbols}
-use Rattle.gs3_rules.specs.Rules.{Rule, false_at}
-use Rattle.gs3_rules.specs.Refutes.{ProofTree, preorder, premises_of, HasShape, IsWhole}
-use Rattle.gs3_text.specs.ProofText.{heading, line_of, proof_lines, text_of, says, IsLine, IsSpellable, numbers_from, step_lines, AreLinesOf, CanGoOn}
+use Rattle.gs3_rules.specs.Rules.{Rule}
+use Rattle.gs3_rules.specs.Refutes.{ProofTree, preorder, premises_of}
+use Rattle.gs3_text.specs.ProofText.{heading, line_of, proof_lines, says, IsSpellable, numbers_from, AreLinesOf}
 use Rattle.gs3_text.specs.Reading.{step_of, ◌>>=◌}
 use Rattle.gs3_text.specs.Scanning.{Scan, start, with_step, said_by, next_scan}
 use Rattle.gs3_text.proofs.Options.{bind_some}
 use Rattle.gs3_text.proofs.Lines.{step_takes, step_again}
-use Rattle.gs3_text.proofs.Shapes.{heads, tails, owed_after, owed-append, whole_owes, whole_from, closing, closing_owes}
-use Rattle.gs3_text.proofs.Cuts.{lines-append}
-use Rattle.gs3_text.proofs.Written.{all_said}
+use Rattle.gs3_text.proofs.Shapes.{heads, tails, owed_after, whole_owes}
 
 -- the lines, the first of which has the number n, read one after the other
 abbrev pub scan : List Symbol → ℕ → Scan → List (List ℕ) → Option Scan

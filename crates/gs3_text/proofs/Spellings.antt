@@ -1,5 +1,5 @@
 -- Reading a symbol, and reading it again.
-use Rattle.std.proofs.Common.{◌≡◌, ℕ, suc, ◌+◌, Bool, true, false, ◌&&◌, cond, eqb, List, [], ◌∷◌, ◌++◌, take, drop, length, Option, Some, None, option_map, refl, ap, sym, ◌∙◌, subst, append_assoc, take-append-drop}
+use Rattle.std.proofs.Common.{◌≡◌, ℕ, ◌+◌, Bool, true, false, cond, eqb, List, [], ◌∷◌, ◌++◌, take, drop, length, Option, Some, None, option_map, refl, ap, sym, ◌∙◌, subst, append_assoc, take-append-drop}
 use Rattle.std.specs.List.{prefix_len, list_all, flat_map}
 use Rattle.std.proofs.lemmas.Bool.{and_parts, and_from, or_left, eqb-true, false≢true}
 use Rattle.std.proofs.lemmas.Option.{none-some, same_Some, some_pair_parts}

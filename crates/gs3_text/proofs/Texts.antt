@@ -1,20 +1,20 @@
 -- What reading a text line by line says of the whole text.
-use Rattle.std.proofs.Common.{◌≡◌, ℕ, zero, suc, ◌+◌, ◌<◌, ◌≤◌, Bool, true, false, cond, List, [], ◌∷◌, ◌++◌, map, take, drop, length, Option, Some, None, ◌⊎◌, inl, inr, refl, ap, sym, ◌∙◌, subst, arith, append_assoc, length-append, take-append-drop, lit<}
+use Rattle.std.proofs.Common.{◌≡◌, ℕ, zero, suc, ◌+◌, ◌<◌, Bool, true, false, cond, List, [], ◌∷◌, ◌++◌, map, take, drop, length, Some, None, ◌⊎◌, inl, inr, refl, ap, sym, ◌∙◌, subst, arith, append_assoc, length-append, take-append-drop, lit<}
 use Rattle.std.specs.List.{AllByRecursion, filter}
 use Rattle.std.proofs.lemmas.Bool.{cases_order}
 use Rattle.std.proofs.lemmas.List.{append-nil, map-append, take_at, take_all}
 use Rattle.std.proofs.lemmas.Option.{none-some, same_Some}
 use Rattle.fol_core.specs.Symbol.{Symbol, AreSymbols}
 use Rattle.gs3_rules.specs.Rules.{Rule, false_at}
-use Rattle.gs3_rules.specs.Refutes.{ProofTree, preorder, HasShape, IsWhole}
-use Rattle.gs3_text.specs.ProofText.{heading, line_of, proof_lines, text_of, says, IsLine, IsSpellable, IsSpellableTerm, step_lines, AreLinesOf, ProofText, CanGoOn, IsMalformedAt, IsReading}
+use Rattle.gs3_rules.specs.Refutes.{ProofTree, preorder, IsWhole}
+use Rattle.gs3_text.specs.ProofText.{heading, line_of, proof_lines, text_of, says, IsLine, IsSpellable, IsSpellableTerm, AreLinesOf, ProofText, CanGoOn, IsMalformedAt, IsReading}
 use Rattle.gs3_text.specs.Scanning.{Scan, start, next_scan}
 use Rattle.gs3_text.specs.Reading.{step_of, ◌>>=◌}
 use Rattle.gs3_text.proofs.Feeds.{decimal_is_line}
 use Rattle.gs3_text.proofs.Written.{all_said}
 use Rattle.gs3_text.proofs.Lines.{step_again}
-use Rattle.gs3_text.proofs.Shapes.{heads, tails, owed_after, owed-append, whole_from, closing, closing_owes, one_tree_of}
-use Rattle.gs3_text.proofs.Cuts.{text_cons, text-append, lines-append, one_cut, IsCut, cut}
+use Rattle.gs3_text.proofs.Shapes.{heads, tails, owed-append, whole_from, closing, closing_owes, one_tree_of}
+use Rattle.gs3_text.proofs.Cuts.{text_cons, text-append, lines-append, one_cut, cut}
 use Rattle.gs3_text.proofs.Scans.{scan, scan-append, scan_front, Front, nothing, begun, scan_front_says, tree_comes}
 
 chosen_first : (b : Bool) (l : List ℕ) (ls ms : List (List ℕ)) → cond b (l ∷ (ls ++ ms)) (ls ++ ms) ≡ cond b (l ∷ ls) ls ++ ms

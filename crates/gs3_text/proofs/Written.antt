@@ -5,7 +5,7 @@ use Rattle.fol_core.specs.Symbol.{Symbol}
 use Rattle.gs3_rules.specs.Rules.{Rule, close, false_at, not_true, alpha, beta, delta, gamma}
 use Rattle.gs3_rules.specs.Refutes.{ProofTree, preorder}
 use Rattle.gs3_rules.specs.Refutes.{HasShape}
-use Rattle.gs3_text.specs.ProofText.{heading, line_of, proof_lines, text_of, says, IsLine, IsSpellable, IsSpellableTerm, HasSmallNumbers, ProofText, AreLinesOf}
+use Rattle.gs3_text.specs.ProofText.{heading, line_of, proof_lines, text_of, says, IsLine, IsSpellable, IsSpellableTerm, HasSmallNumbers, ProofText}
 use Rattle.gs3_text.proofs.Feeds.{NamesAreLines, line_is_line}
 
 pub says_line : (functions : List Symbol) (rule : Rule) → says (line_of functions rule) ≡ true

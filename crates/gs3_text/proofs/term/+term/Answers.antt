@@ -1,9 +1,9 @@
-use Rattle.std.proofs.Common.{◌≡◌, ℕ, List, ◌∷◌, ◌++◌, [], map, option_map, length, Some, arith, ap, sym, ◌∙◌, subst}
+use Rattle.std.proofs.Common.{◌≡◌, ℕ, List, ◌∷◌, map, option_map, length, Some, arith, ap, sym, ◌∙◌, subst}
 use Rattle.std.proofs.lemmas.List.{map_push}
 use Rattle.fol_core.specs.Syntax.{param}
 use Rattle.fol_core.specs.View.{term_of}
 use Rattle.fol_core.proofs.Trees.{term_of_param}
-use Rattle.gs3_text.specs.Reading.{Gives, Fails, onto, after_argument, term_at, arguments_from, application_at}
+use Rattle.gs3_text.specs.Reading.{onto, after_argument, term_at, arguments_from}
 use Rattle.gs3_text.proofs.Terms.{term_too_deep, term_empty, term_param, term_other, term_shorter}
 use Rattle.gs3_text.proofs.Arguments.{fails_on, more_on, last_on, none_on, fails_map, behind_other}
 use Rattle.gs3_text.proofs.term.+term.Goals as goal

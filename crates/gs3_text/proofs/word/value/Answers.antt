@@ -1,4 +1,4 @@
-use Rattle.std.proofs.Common.{◌≡◌, ◌≤◌, ◌*◌, ◌-◌, ◌+◌, ℕ, get_or, drop, arith}
+use Rattle.std.proofs.Common.{arith}
 use Rattle.gs3_text.proofs.Numbers.{value_from}
 use Rattle.gs3_text.proofs.word.value.Goals as goal
 
