@@ -3,5 +3,6 @@ pub mod Injective
 pub mod Around
 pub mod Depth
 pub mod SymbolLists
+pub mod KeptSymbols
 pub mod Grown
 pub mod Examples

@@ -39,3 +39,8 @@ symbols_code = coded_list (coded× (coded_list coded_ℕ) coded_ℕ)
 abbrev pub table_code : Coded SymbolTable
 table_code =
     code_by (List Symbol × List Symbol) (coded× symbols_code symbols_code) (λ t. (t.functions, t.predicates)) (λ p. record { functions = p.0; predicates = p.1 }) (λ _. refl)
+
+-- Each symbol of the list has a name, and none stands twice.
+pub record AreSymbols (list : List Symbol) : Type 0 where
+  pub named : (n : ℕ) (symbol : Symbol) → IsAt list symbol n → IsSymbolName symbol.0
+  pub once : (m n : ℕ) (symbol : Symbol) → IsAt list symbol m → IsAt list symbol n → m ≡ n

@@ -1,6 +1,6 @@
 ghost use Rattle.std.specs.Prelude.{◌≡◌, ◌++◌, ◌∷◌, [], length, slice_get, option_map, IfSome, IfOk, OnOk, OnErr};
 ghost use Rattle.std.specs.Option.{option_copied};
-ghost use Rattle.fol_core.specs.Symbol.{IsSymbolName, IsNumberOf, IsAt, IsNowhere, Interns};
+ghost use Rattle.fol_core.specs.Symbol.{IsSymbolName, IsNumberOf, IsAt, IsNowhere, Interns, AreSymbols};
 ghost use Rattle.fol_core.specs.SymbolList.{number_in, numbers_at};
 
 use containers::Log;
@@ -86,6 +86,13 @@ impl Numbering {
             names: IndexMap::new(alloc),
             symbols: Log::new(alloc),
         }
+    }
+
+    /// What every list of symbols keeps.
+    pub fn keeps(&self)
+        ensures { AreSymbols self.now }
+    {
+        let _ = &self.symbols;
     }
 
     /// The number of the symbol. It takes no memory.

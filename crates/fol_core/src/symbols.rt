@@ -1,6 +1,6 @@
 ghost use Rattle.std.specs.Prelude.{◌≡◌, ◌↔◌, ◌<◌, [], length, slice_get, option_map, IsSome, IfSome, IfOk, OnOk, OnErr};
 ghost use Rattle.std.specs.Option.{option_copied};
-ghost use Rattle.fol_core.specs.Symbol.{IsSymbolName, IsNumberOf, IsAt, Interns};
+ghost use Rattle.fol_core.specs.Symbol.{IsSymbolName, IsNumberOf, IsAt, Interns, AreSymbols};
 
 use crate::numbering::Numbering;
 use std::alloc::{AllocError, Global};
@@ -35,6 +35,15 @@ impl Symbols {
             functions: Numbering::new(alloc),
             predicates: Numbering::new(alloc),
         }
+    }
+
+    /// What every table keeps: each symbol has a name of printable bytes, and none stands twice. It does nothing.
+    pub fn keeps(&self)
+        ensures functions { AreSymbols self.now.functions }
+        ensures predicates { AreSymbols self.now.predicates }
+    {
+        self.functions.keeps();
+        self.predicates.keeps();
     }
 
     /// The number of a function symbol.

@@ -1,0 +1,5 @@
+pub mod ProofText
+pub mod Reading
+pub mod Spelled
+pub mod Scanning
+pub mod Answer
