@@ -1,0 +1,22 @@
+-- The plain trees that the program's free terms stand for.
+use Rattle.std.specs.Prelude.{List, map}
+use Rattle.free_terms.specs.Free as free
+use Rattle.free_terms.specs.declared.term.Name.{Name}
+use Rattle.free_terms.specs.declared.term.FTerm.{FTerm, fold-FTerm}
+use Rattle.free_terms.specs.declared.term.FTerm.TheOpen.{FTerm-F}
+
+abbrev pub name_of : Name → free.Name
+name_of x = record { segment = x.segment; count = x.count }
+
+-- one level, with the plain tree of each part in its place
+abbrev pub term_level : FTerm-F free.FreeTerm → free.FreeTerm
+term_level (FTerm-F.Bound n) = free.bound n
+term_level (FTerm-F.Meta x) = free.metavar (name_of x)
+term_level (FTerm-F.Skolem x us) = free.skolem (name_of x) (free.terms_of_list us)
+term_level (FTerm-F.App f us) = free.app f (free.terms_of_list us)
+
+abbrev pub term_of : FTerm → free.FreeTerm
+term_of = fold-FTerm free.FreeTerm term_level
+
+abbrev pub terms_of : List FTerm → free.FreeTerms
+terms_of us = free.terms_of_list (map term_of us)

@@ -1,0 +1,4 @@
+pub mod Acyclic
+pub mod Extend
+pub mod Absorb
+pub mod Resolved

@@ -1,0 +1,3 @@
+pub mod Offers
+pub mod View
+pub mod Weight
