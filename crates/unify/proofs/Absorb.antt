@@ -1,7 +1,8 @@
 -- An offer that entails another gives the terms that the other has resolved the same values.
-use Rattle.std.proofs.Common.{◌≡◌, ℕ, zero, suc, ◌+◌, ◌≤◌, true, false, [], ◌∷◌, length, Option, Some, None, refl, ap, sym, ◌∙◌, arith, ◌⊎◌, inl, inr, if◌then◌else◌}
+use Rattle.std.proofs.Common.{◌≡◌, ℕ, zero, suc, ◌≤◌, true, false, [], ◌∷◌, length, Option, Some, None, refl, ap, sym, ◌∙◌, arith, ◌⊎◌, inl, inr, if◌then◌else◌}
 use Rattle.free_terms.specs.Free.{Name, FreeTerm, FreeTerms, bound, metavar, skolem, app, no_terms, terms}
 use Rattle.unify.specs.Offers.{Offer, OccursIn, OccursInSome, Equates, Entails, value_of, value_within, substituted_in, substitute, substitute_all, resolved, resolved_all, same_name}
+use Rattle.unify.specs.Work.{size, size_all}
 use Rattle.unify.proofs.Acyclic.{tells}
 
 some_once : {A : Type 0} (a b : A) → Some a ≡ Some b → a ≡ b
@@ -56,18 +57,6 @@ carries r s all t u e = sym (absorbed r s all t) ∙ ap (resolved r) e ∙ absor
 pub transitive : (q r s : Offer) → Entails q r → Entails r s → Entails q s
 transitive q r [] x y = tt
 transitive q r (b ∷ s) x y = (carries q r x (metavar b.name) b.term y.0, transitive q r s x y.1)
-
--- how large a term is
-abbrev mutual
-  size : FreeTerm → ℕ
-  size (bound n) = 1
-  size (metavar x) = 1
-  size (skolem x us) = suc (size_all us)
-  size (app f us) = suc (size_all us)
-
-  size_all : FreeTerms → ℕ
-  size_all no_terms = 0
-  size_all (terms u us) = size u + size_all us
 
 mutual
   smaller : (r : Offer) (x : Name) (t : FreeTerm) → OccursIn x t → size (resolved r (metavar x)) ≤ size (resolved r t)

@@ -14,7 +14,7 @@ Member x [] = ⊥
 Member x (y ∷ ys) = (x ≡ y) ⊎ Member x ys
 
 -- no chain from x uses more than k bindings
-abbrev Settled : ℕ → Offer → Name → Type 0
+abbrev pub Settled : ℕ → Offer → Name → Type 0
 Settled zero s x = value_of s x ≡ None
 Settled (suc k) s x = (value_of s x ≡ None) ⊎ ((t : FreeTerm) × (value_of s x ≡ Some t) × ((y : Name) → OccursIn y t → Settled k s y))
 
@@ -173,7 +173,7 @@ apart_on : (s : Offer) → IsOffer s → (x : Name) (ys : List Name) → IsPath 
 apart_on s o x [] path = (λ m. m, tt)
 apart_on s o x (y ∷ ys) path = (λ m. o.acyclic x (chain_to s x x (y ∷ ys) path m), apart_on s o y ys path.1)
 
-all_settled : (s : Offer) → IsOffer s → (x : Name) → Settled (length s) s x
+pub all_settled : (s : Offer) → IsOffer s → (x : Name) → Settled (length s) s x
 all_settled s o x = unless_long (each_name (length s) s x) where
   unless_long : NameCase (length s) s x → Settled (length s) s x
   unless_long (inl settled) = settled

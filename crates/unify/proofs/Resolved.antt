@@ -4,6 +4,8 @@ use Rattle.free_terms.specs.Free as free
 use Rattle.unify.specs.Offers.{Offer, substitute, substitute_all, value_within, substituted_in, value_of}
 use Rattle.std.specs.Option.{option_copied}
 use Rattle.std.specs.Borrow.{Bor}
+use Rattle.unify.specs.Work.{count}
+use Rattle.unify.proofs.Parts.{count_of}
 use Rattle.unify.specs.Weight.{IsStuck, Follows}
 use Rattle.free_terms.specs.View.{term_of, terms_of}
 use Rattle.free_terms.specs.declared.term.FTerm.{FTerm}
@@ -33,17 +35,13 @@ pub follow_none : (m : ℕ) (s : Offer) (x : free.Name) (t : free.FreeTerm) (r :
 follow_none m s x t None te e = subst (λ z. IsStuck m s z) (sym te) (unbound m s x (sym e))
 follow_none m s x t (Some v) te e = tt
 
-count : free.FreeTerms → ℕ
-count free.no_terms = 0
-count (free.terms u us) = suc (count us)
-
-counted : (f : free.Name → free.FreeTerm) (us : List FTerm) → count (substitute_all f (terms_of us)) ≡ length us
-unfolding count
-counted f [] = refl
-counted f (u ∷ us) = omega (arith, counted f us)
+pub count_terms : (us : List FTerm) → count (terms_of us) ≡ length us
+count_terms [] = refl
+count_terms (u ∷ us) = omega (arith, count_terms us)
 
 pub same_length : (f g : free.Name → free.FreeTerm) (us vs : List FTerm) → substitute_all f (terms_of us) ≡ substitute_all g (terms_of vs) → length us ≡ length vs
-same_length f g us vs e = sym (counted f us) ∙ ap count e ∙ counted g vs
+same_length f g us vs e =
+    sym (count_of f (terms_of us) ∙ count_terms us) ∙ ap count e ∙ count_of g (terms_of vs) ∙ count_terms vs
 
 pub shared_is : {E : Type 0} (r : Result (List FTerm) E) (us : List FTerm) (z : free.FreeTerms) → IfOk r (λ s. s ≡ us) → terms_of us ≡ z
     → IfOk r (λ rs. terms_of rs ≡ z)
