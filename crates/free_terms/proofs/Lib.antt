@@ -1,2 +1,4 @@
 pub mod Around
 pub mod Trees
+pub mod Filled
+pub mod Params

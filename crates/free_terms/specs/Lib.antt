@@ -1,3 +1,4 @@
 pub mod Around
 pub mod Free
+pub mod NoParam
 pub mod View

@@ -1,11 +1,13 @@
 -- The plain trees that the program's free terms and formulas stand for.
-use Rattle.std.specs.Prelude.{List, map}
+use Rattle.std.specs.Prelude.{List, map, Option, Some, None}
 use Rattle.fol_core.specs.Syntax.{atom, verum, falsum, not, and, or, imp, iff, all, ex}
 use Rattle.free_terms.specs.Free as free
 use Rattle.free_terms.specs.Free.{FreeFormula}
 use Rattle.free_terms.specs.declared.term.Name.{Name}
 use Rattle.free_terms.specs.declared.term.FTerm.{FTerm, fold-FTerm}
 use Rattle.free_terms.specs.declared.term.FTerm.TheOpen.{FTerm-F}
+use Rattle.free_terms.specs.declared.fills.Fill.{Fill}
+use Rattle.free_terms.specs.declared.fills.Fill.TheVariants as fill
 use Rattle.free_terms.specs.declared.formula.FFormula.{FFormula, fold-FFormula}
 use Rattle.free_terms.specs.declared.formula.FFormula.TheOpen.{FFormula-F}
 
@@ -42,3 +44,10 @@ formula_of = fold-FFormula FreeFormula formula_level
 
 abbrev pub formulas_of : List FFormula → List FreeFormula
 formulas_of fs = map formula_of fs
+
+abbrev pub fill_of : Fill → Option free.FreeTerm
+fill_of (fill.Given t) = Some (term_of t)
+fill_of fill.Unused = None
+
+abbrev pub fills_of : List Fill → List (Option free.FreeTerm)
+fills_of fs = map fill_of fs
