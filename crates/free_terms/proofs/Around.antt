@@ -1,5 +1,5 @@
 -- A level below a spine, and the plain tree of a spine.
-use Rattle.std.proofs.Common.{◌≡◌, ◌≤◌, ℕ, List, [], ◌∷◌, ◌++◌, refl, ap, ◌∙◌, rules, subst, arith}
+use Rattle.std.proofs.Common.{◌≡◌, ◌≤◌, ℕ, List, [], ◌∷◌, ◌++◌, refl, ap, ◌∙◌, rules, arith}
 use Rattle.free_terms.specs.Free.{FreeFormula}
 use Rattle.free_terms.specs.View.{formula_of}
 use Rattle.free_terms.specs.declared.formula.FFormula.{FFormula, size-FFormula}

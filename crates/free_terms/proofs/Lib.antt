@@ -2,3 +2,4 @@ pub mod Around
 pub mod Trees
 pub mod Filled
 pub mod Params
+pub mod Matched

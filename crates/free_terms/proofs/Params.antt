@@ -6,7 +6,7 @@ use Rattle.fol_core.specs.Syntax as plain
 use Rattle.fol_core.specs.Syntax.{PlainFormula, FormulaOver, map_atoms, atom, verum, falsum, not, and, or, imp, iff, all, ex}
 use Rattle.fol_core.specs.View as view
 use Rattle.fol_core.specs.declared.term.Term.{Term}
-use Rattle.free_terms.specs.Free.{FreeTerm, FreeTerms, FreeFormula, terms, terms_of_list, lift, lift_term, lift_terms, HoldsNoParam}
+use Rattle.free_terms.specs.Free.{terms, terms_of_list, lift, lift_term, lift_terms, HoldsNoParam}
 use Rattle.free_terms.specs.NoParam.{NoParamIn, NoParamInTerm, NoParamInTerms}
 
 no_first : (p q : Bool) → (p || q) ≡ false → p ≡ false

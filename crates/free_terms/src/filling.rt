@@ -41,12 +41,7 @@ fn variable(n: u32, level: u32, fills: &Fills) -> Result<FTerm, AllocError>
 }
 
 #[cycle(fill)]
-fn filled_term(
-    alloc: Global,
-    t: &FTerm,
-    level: u32,
-    fills: &Fills,
-) -> Result<FTerm, AllocError>
+fn filled_term(alloc: Global, t: &FTerm, level: u32, fills: &Fills) -> Result<FTerm, AllocError>
     ensures { IfOk result (λ r. term_of r ≡ fill_term (fills_of fills.now) level (term_of t.now)) }
 {
     match t {
@@ -58,12 +53,7 @@ fn filled_term(
 }
 
 #[cycle(fill)]
-fn filled_terms(
-    alloc: Global,
-    us: &FTerms,
-    level: u32,
-    fills: &Fills,
-) -> Result<FTerms, AllocError>
+fn filled_terms(alloc: Global, us: &FTerms, level: u32, fills: &Fills) -> Result<FTerms, AllocError>
     ensures { IfOk result (λ rs. terms_of rs ≡ fill_terms (fills_of fills.now) level (terms_of us.now)) }
 {
     let mut out = Items::new(alloc);

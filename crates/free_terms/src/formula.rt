@@ -29,11 +29,13 @@ impl Drop for FFormula {
             match self {
                 FFormula::Atom(_, _) | FFormula::Verum | FFormula::Falsum => return,
                 FFormula::Not(a) | FFormula::All(a) | FFormula::Ex(a) => self = a.into_inner(),
-                FFormula::And(a, b) | FFormula::Or(a, b) | FFormula::Imp(a, b) | FFormula::Iff(a, b) =>
-                    {
-                        drop(b);
-                        self = a.into_inner();
-                    }
+                FFormula::And(a, b)
+                | FFormula::Or(a, b)
+                | FFormula::Imp(a, b)
+                | FFormula::Iff(a, b) => {
+                    drop(b);
+                    self = a.into_inner();
+                }
             }
         }
     }

@@ -5,6 +5,8 @@ mod filling;
 mod fills;
 mod formula;
 mod lifting;
+mod matching;
+mod same;
 mod spine;
 mod term;
 
@@ -12,4 +14,8 @@ pub use filling::{fill, fill_all};
 pub use fills::{Fill, Fills};
 pub use formula::{FFormula, FFormulas};
 pub use lifting::lift;
+pub use matching::match_into;
 pub use term::{FTerm, FTerms, Name};
+
+#[cfg(test)]
+mod tests;

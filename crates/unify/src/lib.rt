@@ -15,3 +15,6 @@ pub use equal::{entails, equates};
 pub use lookup::{binding, value_of};
 pub use subst::{Binding, Subst, empty};
 pub use unification::unify;
+
+#[cfg(test)]
+mod tests;

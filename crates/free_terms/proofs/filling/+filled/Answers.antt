@@ -1,9 +1,8 @@
-use Rattle.std.proofs.Common.{◌≡◌, ◌≤◌, rules, ap, ◌∙◌, arith}
+use Rattle.std.proofs.Common.{◌≡◌, rules, arith}
 use Rattle.std.proofs.lemmas.Grind.{common_steps}
 use Rattle.free_terms.specs.Around.{plain_in_wrap}
 use Rattle.free_terms.specs.Free.{fill_at}
 use Rattle.free_terms.specs.View.{fills_of, formula_of}
-use Rattle.free_terms.specs.declared.formula.FFormula.{size-FFormula}
 use Rattle.free_terms.specs.declared.formula.FFormula.TheViews.{the_lemmas}
 use Rattle.free_terms.proofs.Around.{plain_around_below}
 use Rattle.free_terms.proofs.Trees.{levels}

@@ -1,4 +1,4 @@
-use Rattle.std.proofs.Common.{◌≡◌, Some, None, option_map, ap, sym, ◌∙◌}
+use Rattle.std.proofs.Common.{Some, None, option_map, ap, sym, ◌∙◌}
 use Rattle.free_terms.specs.View.{fill_of, fills_of}
 use Rattle.std.proofs.lemmas.Option.{slice_get-map}
 use Rattle.free_terms.proofs.Filled.{filled_beyond}

@@ -1,4 +1,4 @@
-use Rattle.std.proofs.Common.{◌≡◌, rules, ap, ◌∙◌}
+use Rattle.std.proofs.Common.{◌≡◌, rules}
 use Rattle.free_terms.specs.Around.{in_wrap}
 use Rattle.free_terms.specs.declared.formula.FFormula.TheViews.{the_lemmas}
 use Rattle.free_terms.proofs.Around.{around_below, size_below}
