@@ -1,0 +1,6 @@
+pub mod Around
+pub mod Free
+pub mod Gives
+pub mod Matching
+pub mod NoParam
+pub mod View

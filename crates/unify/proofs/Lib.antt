@@ -1,0 +1,12 @@
+pub mod Acyclic
+pub mod Extend
+pub mod Absorb
+pub mod Resolved
+pub mod Subterms
+pub mod Parts
+pub mod Reduce
+pub mod Partial
+pub mod Heads
+pub mod Steps
+pub mod Variants
+pub mod Turns

@@ -1,0 +1,4 @@
+pub mod Offers
+pub mod View
+pub mod Weight
+pub mod Work
