@@ -10,6 +10,7 @@ use crate::tree::{Tree, tree_of};
 use crate::{scan, table};
 use fol_core::Symbols;
 use std::alloc::Global;
+use thiserror::Error;
 
 /// A proof and where it stands in its text.
 #[derive(Drop)]
@@ -19,10 +20,13 @@ pub struct ReadTree {
     pub lines: Lines,
 }
 
-#[derive(Clone, Copy, Debug, PartialEq, Eq)]
+/// Why no proof was read.
+#[derive(Clone, Copy, Debug, PartialEq, Eq, Error)]
 pub enum TextError {
     /// The bytes are no text of a proof, and this is the first line that cannot go on, the lines counted from 1.
+    #[error("no proof's text goes on with line {line}")]
     Malformed { line: u64 },
+    #[error("out of memory")]
     OutOfMemory,
 }
 

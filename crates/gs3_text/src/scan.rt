@@ -52,7 +52,7 @@ pub(crate) fn line_at(bytes: &[u8]) -> Option<(&[u8], &[u8])>
         (λ x. (bytes.now ≡ x.0.now ++ 10 ∷ x.1.now) × IsLine x.0.now) }
 {
     for (i, b) in bytes.iter().enumerate() {
-        if *b == 10 {
+        if *b == b'\n' {
             return Some((&bytes[..i], &bytes[i + 1..]));
         }
     }
@@ -64,7 +64,7 @@ fn says(line: &[u8]) -> bool
     ensures { result ≡ says line.now }
 {
     match line {
-        [37, ..] => false,
+        [b'%', ..] => false,
         _ => true,
     }
 }

@@ -49,7 +49,7 @@ fn is_lower_word(name: &[u8]) -> bool
     ensures { result ≡ is_lower_word name.now }
 {
     match name {
-        [97..=122, rest @ ..] => are_word_bytes(rest),
+        [b'a'..=b'z', rest @ ..] => are_word_bytes(rest),
         _ => false,
     }
 }
@@ -58,14 +58,14 @@ fn is_lower_word(name: &[u8]) -> bool
 fn closes(escape: bool, b: u8) -> bool
     ensures { result ≡ (not escape && eqb b 39) }
 {
-    !escape && b == 39
+    !escape && b == b'\''
 }
 
 /// Whether the byte is a backslash before another byte.
 fn is_escape(escape: bool, b: u8) -> bool
     ensures { result ≡ is_escape escape b }
 {
-    !escape && b == 92
+    !escape && b == b'\\'
 }
 
 /// What stands before the closing quote, and the bytes behind it.
@@ -90,7 +90,7 @@ pub(crate) fn spelling_at(bytes: &[u8]) -> Result<(Spelling, &[u8]), Fault>
 {
     match bytes {
         [] => Err(Fault::Malformed),
-        [97..=122, ..] => {
+        [b'a'..=b'z', ..] => {
             let (text, rest) = bytes.split_at(word_len(bytes));
             Ok((
                 Spelling {
@@ -100,7 +100,7 @@ pub(crate) fn spelling_at(bytes: &[u8]) -> Result<(Spelling, &[u8]), Fault>
                 rest,
             ))
         }
-        [39, inner @ ..] => match quoted_at(inner) {
+        [b'\'', inner @ ..] => match quoted_at(inner) {
             Some((text, rest)) => Ok((Spelling { quoted: true, text }, rest)),
             None => Err(Fault::Malformed),
         },
@@ -118,7 +118,7 @@ fn unescape(alloc: Global, text: &[u8]) -> Result<Vec<u8>, Fault>
     for b in text {
         let backslash = is_escape(escape, *b);
         if !backslash {
-            if escape != (*b == 39 || *b == 92) {
+            if escape != (*b == b'\'' || *b == b'\\') {
                 return Err(Fault::Malformed);
             }
             name.push(*b)?;

@@ -25,7 +25,7 @@ pub(crate) fn term_at<'a>(
     let Some((first, digits)) = front(bytes) else {
         return Err(Fault::Malformed);
     };
-    if first != 35 {
+    if first != b'#' {
         return application_at(alloc, symbols, inside, bytes);
     }
     match number_at(digits, u64::MAX) {
@@ -65,7 +65,7 @@ fn arguments_at<'a>(
         (arguments_at (term_at symbols.now.functions depth) bytes.now) }
 {
     match bytes {
-        [40, rest @ ..] => arguments_from(alloc, symbols, depth, rest),
+        [b'(', rest @ ..] => arguments_from(alloc, symbols, depth, rest),
         _ => Ok((Items::new(alloc), bytes)),
     }
 }
@@ -92,9 +92,9 @@ fn arguments_from<'a>(
         let Some((mark, more)) = front(after) else {
             return Err(Fault::Malformed);
         };
-        if mark == 44 {
+        if mark == b',' {
             rest = more;
-        } else if mark == 41 {
+        } else if mark == b')' {
             return Ok((args, more));
         } else {
             return Err(Fault::Malformed);

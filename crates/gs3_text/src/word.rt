@@ -29,7 +29,7 @@ fn digits(bytes: &[u8]) -> usize
     ensures within { result ≤ length bytes.now }
 {
     for (i, b) in bytes.iter().enumerate() {
-        if !(48 <= *b && *b <= 57) {
+        if !(b'0' <= *b && *b <= b'9') {
             return i;
         }
     }
@@ -46,7 +46,7 @@ fn value(digits: &[u8]) -> Option<u64>
         let Some(tens) = n.checked_mul(10) else {
             return None;
         };
-        let Some(more) = tens.checked_add(u64::from(d.saturating_sub(48))) else {
+        let Some(more) = tens.checked_add(u64::from(d.saturating_sub(b'0'))) else {
             return None;
         };
         n = more;
@@ -60,7 +60,7 @@ fn number_of(digits: &[u8], most: u64) -> Result<u64, Fault>
     ensures within { IfOk result (λ n. n ≤ most) }
 {
     match digits {
-        [] | [48, _, ..] => Err(Fault::Malformed),
+        [] | [b'0', _, ..] => Err(Fault::Malformed),
         _ => match value(digits) {
             Some(n) if n <= most => Ok(n),
             _ => Err(Fault::Malformed),
