@@ -1,4 +1,4 @@
-ghost use Rattle.std.specs.Prelude.{◌≡◌, ◌&&◌, All};
+ghost use Rattle.std.specs.Prelude.{◌≡◌, ◌&&◌, ◌↔◌, All, IsTrue};
 ghost use Rattle.nego_node.specs.Truth.{entails_some};
 ghost use Rattle.nego_node.specs.Machine.{all_entail_some};
 ghost use Rattle.nego_node.specs.Sound.{Belongs};
@@ -51,4 +51,32 @@ pub(crate) fn can_go_on<F: Field>(
     field.same(held.given.get(), task.given.get())
         && all_entail_some(field, held.ban.as_slice(), task.ban.as_slice())
         && entails_some(field, offer, task.ban.as_slice())
+}
+
+/// Whether two lists have the same offers in the same order.
+fn same_offers<F: Field>(field: &F, a: &[Shared<F::Offer>], b: &[Shared<F::Offer>]) -> bool
+    requires a { All (λ x. F.Offer.tree x ≡ F.tree field.now) a.now }
+    requires b { All (λ x. F.Offer.tree x ≡ F.tree field.now) b.now }
+    ensures { IsTrue result ↔ (a.now ≡ b.now) }
+{
+    match (a, b) {
+        ([], []) => true,
+        ([x, xs @ ..], [y, ys @ ..]) => {
+            field.same(x.get(), y.get()) && same_offers(field, xs, ys)
+        }
+        _ => false,
+    }
+}
+
+/// Whether two tasks are the same.
+pub(crate) fn same_task<F: Field>(field: &F, a: &Task<F::Offer>, b: &Task<F::Offer>) -> bool
+    requires a { Belongs F.Offer.tree (F.tree field.now) a.now }
+    requires b { Belongs F.Offer.tree (F.tree field.now) b.now }
+    ensures { IsTrue result ↔ (a.now ≡ b.now) }
+{
+    a.round == b.round
+        && a.node == b.node
+        && a.generation == b.generation
+        && field.same(a.given.get(), b.given.get())
+        && same_offers(field, a.ban.as_slice(), b.ban.as_slice())
 }
