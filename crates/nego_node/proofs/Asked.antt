@@ -1,8 +1,8 @@
-use Rattle.std.proofs.Common.{◌≡◌, ℕ, ◌+◌, ◌<◌, ◌≤◌, Bool, true, false, ◌⊎◌, inl, inr, Option, Some, None, List, [], ◌∷◌, ◌++◌, All, refl, ap, sym, ◌∙◌, subst, arith, if◌then◌else◌}
+use Rattle.std.proofs.Common.{◌≡◌, ℕ, ◌+◌, ◌<◌, Bool, true, false, inl, inr, Option, Some, None, List, [], ◌∷◌, ◌++◌, All, refl, ap, sym, ◌∙◌, subst, arith, if◌then◌else◌}
 use Rattle.std.proofs.lemmas.List.{append-nil, append_assoc}
-use Rattle.std.proofs.lemmas.List.Elements.{All-nil, All-append, All-push}
+use Rattle.std.proofs.lemmas.List.Elements.{All-push}
 use Rattle.nego_laws.specs.Tree.{Tree}
-use Rattle.nego_node.specs.Machine.{Slot, Half, Trial, State, pick, half, other, with_halves, after, after_trying, received, resumed, fresh, goes_on, proposing, giving_up, emptied_of, emptied, cleared, filled, posted_in, kept_for_trial, forbidding, has_proposal, asked_in, task_for}
+use Rattle.nego_node.specs.Machine.{Slot, Half, Trial, State, half, other, with_halves, after, resumed, fresh, goes_on, proposing, giving_up, emptied_of, emptied, filled, posted_in, kept_for_trial, forbidding, has_proposal, asked_in, task_for}
 use Rattle.nego_node.specs.Lawful.{Lawful, MayAsk}
 use Rattle.nego_node.specs.Sound.{Keeps}
 use Rattle.nego_node.specs.AskedOrder.{asked_by, asked_of, AskedInOrder}

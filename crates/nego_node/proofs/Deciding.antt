@@ -4,9 +4,8 @@ use Rattle.std.proofs.lemmas.Bool.{eqb-true, eq-eqb, ltb-true, lt-ltb}
 use Rattle.nego_laws.specs.Tree.{Tree}
 use Rattle.nego_node.specs.Truth.{entails_some}
 use Rattle.nego_node.specs.Machine.{Slot, Trial, State, half, other, generation_of, answered_in, side_of, proposed_by, proposed_in, has_proposal, task_for}
-use Rattle.nego_node.specs.Proposed.{Proposed}
-use Rattle.nego_node.specs.Lawful.{Seeks, HasTriedAll, LeavesFree, Has, CanTry, MaySplit, MayAsk, MayAdopt, MayAgree, MayForbid, MayRefuse, MayGiveUp, IsSpent}
-use Rattle.nego_node.specs.Sound.{Keeps, IsSound}
+use Rattle.nego_node.specs.Lawful.{HasTriedAll, LeavesFree, Has, MayAsk, MayAdopt, MayAgree, MayForbid, MayRefuse, MayGiveUp, IsSpent}
+use Rattle.nego_node.specs.Sound.{Keeps}
 use Rattle.nego_node.specs.Moves.{MayMove, seeks, is_exhausted, on_trial_in, is_present, is_spent}
 use Rattle.nego_node.specs.Decisions.{is_same, leaves_free, has_tried_all, allows_of, allows, may_ask, may_adopt, may_agree, may_forbid, may_refuse, may_give_up, may_move}
 use Rattle.nego_node.specs.declared.tasks.Task.{Task}
@@ -212,8 +211,8 @@ module _ {O : Type 0} (t : Tree O) (s : State O) where
             elim (or-cases leaf (none && spent) (and-right (has_tried_all t s) (leaf || (none && spent)) e)) [
               | inl l ↦ inl (not-true (t.parted s.name) l)
               | inr r ↦
-                let no : s.trial ≡ None = is-not-some s.trial (not-true (is_some s.trial) (and-left none spent r)) in
-                inr (elim (or-cases (is_spent s.left.slot) (is_spent s.right.slot) (and-right none spent r)) [ inl a ↦ spent-true Left no a | inr b ↦ spent-true Right no b ])
+                  let no : s.trial ≡ None = is-not-some s.trial (not-true (is_some s.trial) (and-left none spent r)) in
+                  inr (elim (or-cases (is_spent s.left.slot) (is_spent s.right.slot) (and-right none spent r)) [ inl a ↦ spent-true Left no a | inr b ↦ spent-true Right no b ])
             ];
       }
 

@@ -1,4 +1,4 @@
-use Rattle.std.proofs.Common.{◌≡◌, ◌∙◌, ℕ, Option, Some, None, sym, subst, ap, refl}
+use Rattle.std.proofs.Common.{◌≡◌, ◌∙◌, ℕ, Option, Some, sym, subst, ap}
 use Rattle.nego_laws.specs.Tree.{Tree}
 use Rattle.nego_node.specs.Machine.{Slot, Trial, State, half, other, side_of, proposed_by, proposed_in, task_for}
 use Rattle.nego_node.specs.Proposed.{Proposed}

@@ -1,7 +1,7 @@
-use Rattle.std.proofs.Common.{◌≡◌, ℕ, ◌+◌, ◌<◌, ◌≤◌, Bool, true, false, List, [], ◌∷◌, ◌++◌, length, refl, ap, sym, ◌∙◌, Option, Some, None, if◌then◌else◌, is_some}
+use Rattle.std.proofs.Common.{◌≡◌, ℕ, ◌+◌, Bool, true, false, List, [], ◌∷◌, ◌++◌, length, ap, sym, ◌∙◌, Option, Some, None, if◌then◌else◌, is_some}
 use Rattle.containers.specs.Growing.{Growing}
 use Rattle.nego_laws.specs.Tree.{Tree, Laws}
-use Rattle.nego_node.specs.Machine.{Slot, Half, Trial, State, half, other, with_halves, generation_of, after, after_trying, proposing, giving_up, emptied, filled, posted_in, kept_for_trial, forbidding, has_proposal}
+use Rattle.nego_node.specs.Machine.{Slot, Half, State, half, other, with_halves, generation_of, after, proposing, giving_up, emptied, filled, posted_in, kept_for_trial, forbidding, has_proposal}
 use Rattle.nego_node.specs.Parts.{part, joined, with_part, emptied_part, forbidding_part, filled_part, marked_part}
 use Rattle.nego_node.specs.Lawful.{MayTry, MaySplit, MayAsk, MayPost, MayAdopt, MayAgree, MayForbid, MayRefuse, MayGiveUp}
 use Rattle.nego_node.specs.Sound.{IsTrueAnswer, IsUselessOutcome}

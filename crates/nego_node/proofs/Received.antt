@@ -1,8 +1,8 @@
-use Rattle.std.proofs.Common.{◌≡◌, ℕ, ◌+◌, ◌<◌, ◌≤◌, Bool, true, false, List, [], ◌∷◌, ◌++◌, length, refl, ap, subst, sym, ◌∙◌, Option, Some, None, arith, length-append, if◌then◌else◌}
+use Rattle.std.proofs.Common.{◌≡◌, ℕ, Bool, true, false, List, [], ◌∷◌, ◌++◌, length, refl, ap, subst, sym, ◌∙◌, Option, Some, None, arith, length-append, if◌then◌else◌}
 use Rattle.containers.specs.Growing.{Growing}
 use Rattle.nego_laws.specs.Tree.{Tree, Laws}
-use Rattle.nego_node.specs.Machine.{State, after, beginning, goes_on, resumed, fresh}
-use Rattle.nego_node.specs.Lawful.{Lawful, MayReceive}
+use Rattle.nego_node.specs.Machine.{State, after, goes_on, resumed, fresh}
+use Rattle.nego_node.specs.Lawful.{MayReceive}
 use Rattle.nego_node.specs.Sound.{Belongs}
 use Rattle.nego_node.specs.NodeValue.{IsNode, task_in}
 use Rattle.nego_node.specs.NodeView.{value_of, IsKept}

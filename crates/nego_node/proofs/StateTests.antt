@@ -1,19 +1,17 @@
-use Rattle.std.proofs.Common.{◌≡◌, ◌≢◌, ◌∙◌, ℕ, ◌<◌, ◌≤◌, Bool, true, false, not, ◌&&◌, ◌||◌, ◌⊎◌, inl, inr, Option, Some, None, is_some, nat_eq, nat_lt, List, sym, subst, ap, refl, arith, if◌then◌else◌}
+use Rattle.std.proofs.Common.{◌≡◌, ◌∙◌, ◌≤◌, Bool, true, false, not, ◌&&◌, inl, inr, Option, Some, None, is_some, nat_lt, sym, ap, refl}
 use Rattle.std.proofs.Math.Nat.{eq-or-lt_of_le}
-use Rattle.std.proofs.lemmas.Bool.{eqb-true, eq-eqb, ltb-true, lt-ltb}
-use Rattle.nego_laws.specs.Tree.{Tree, Laws}
-use Rattle.nego_node.specs.Truth.{entails_some}
-use Rattle.nego_node.specs.Machine.{Slot, Trial, State, half, other, generation_of, answered_in, side_of, is_proposal, proposed_by, proposed_in, has_proposal, task_for}
+use Rattle.std.proofs.lemmas.Bool.{lt-ltb}
+use Rattle.nego_laws.specs.Tree.{Tree}
+use Rattle.nego_node.specs.Machine.{Slot, Trial, State, half, answered_in, side_of, is_proposal, has_proposal}
 use Rattle.nego_node.specs.Proposed.{Proposed}
-use Rattle.nego_node.specs.Lawful.{Seeks, HasTriedAll, LeavesFree, Has, Lawful, CanTry, MayTry, MaySplit, MayAsk, MayAdopt, MayAgree, MayForbid, MayRefuse, MayGiveUp, IsSpent}
-use Rattle.nego_node.specs.Moves.{seeks, is_exhausted, on_trial_in, is_present, is_spent}
+use Rattle.nego_node.specs.Lawful.{Seeks, Has}
+use Rattle.nego_node.specs.Moves.{seeks, is_exhausted}
 use Rattle.nego_node.specs.declared.tasks.Task.{Task}
 use Rattle.nego_node.specs.declared.tasks.Side.{Side}
-use Rattle.nego_node.specs.declared.tasks.Side.TheVariants.{Left, Right}
 use Rattle.nego_node.specs.declared.answers.Answer.{Answer}
 use Rattle.nego_node.specs.declared.answers.Answer.TheVariants.{Proposal, Exhausted}
-use Rattle.nego_node.proofs.Entailing.{and-left, and-right, and-both, or-cases}
-use Rattle.nego_node.proofs.Sides.{none-some, same-some, other-other}
+use Rattle.nego_node.proofs.Entailing.{and-both}
+use Rattle.nego_node.proofs.Sides.{none-some, same-some}
 
 pub not-true : (b : Bool) → not b ≡ true → b ≡ false
 not-true true h = absurd (let k : false ≡ true = h in cc)

@@ -1,12 +1,11 @@
-use Rattle.std.proofs.Common.{◌≡◌, ℕ, ◌+◌, ◌<◌, ◌≤◌, Bool, true, false, ◌⊎◌, inl, inr, List, [], ◌∷◌, ◌++◌, length, refl, ap, subst, sym, ◌∙◌, Option, Some, None, arith, length-append, is_some, if◌then◌else◌, slice_get}
+use Rattle.std.proofs.Common.{◌≡◌, ℕ, ◌+◌, Bool, inl, inr, List, [], ◌∷◌, ◌++◌, refl, ap, subst, sym, ◌∙◌, Option, Some, None, is_some}
 use Rattle.containers.specs.Growing.{Growing}
 use Rattle.nego_laws.specs.Tree.{Tree, Laws}
-use Rattle.nego_node.specs.Truth.{entails_some, Serves, NothingServes}
-use Rattle.nego_node.specs.Proposed.{Proposed}
-use Rattle.nego_node.specs.Machine.{Slot, Half, Trial, State, pick, half, other, with_halves, after, after_trying, proposing, giving_up, emptied, asked_in, generation_of}
+use Rattle.nego_node.specs.Truth.{Serves, NothingServes}
+use Rattle.nego_node.specs.Machine.{Half, State, pick, half, other, with_halves, after, after_trying, proposing, giving_up, emptied, asked_in, generation_of}
 use Rattle.nego_node.specs.Parts.{part, joined, emptied_part}
 use Rattle.nego_node.specs.Lawful.{Lawful, MayTry, MayAgree, MayGiveUp}
-use Rattle.nego_node.specs.Sound.{Keeps, IsSound, IsTrueEvent, IsTrueAnswer, IsUselessOutcome}
+use Rattle.nego_node.specs.Sound.{Keeps, IsTrueEvent, IsTrueAnswer, IsUselessOutcome}
 use Rattle.nego_node.specs.NodeValue.{IsNode, task_at, slot_of, half_of, trial_of, IsWithin, PartFits, PartsFit}
 use Rattle.nego_node.specs.NodeView.{value_of, IsKept}
 use Rattle.nego_node.specs.declared.tasks.Task.{Task}
@@ -140,7 +139,6 @@ module _ {O : Type 0} (tree : O → Tree O) (t : Tree O) (laws : Laws t (λ s. t
       let is : last.answer ≡ Some (answer.Proposal (record { task = task; offer = x })) = ap (λ (h : Option (Task O)). (proposing one_on h x).answer) held in
       let truth = answer-truth last (answer.Proposal (record { task = task; offer = x })) (kept tree t laws s (Tried s.next (outcome.Offer x)) keeps may tt) is in
       subst (λ (y : Tree O). Serves tree y task x) (sym truth.0.given) truth.1
-
 
 -- what a part holds is what contracts see in the slot of its side
 pub asked-here : {F O S : Type 0} (n : Inside F O S) (side : Side) (p : Part O) (k : Asking O) → p ≡ part n.parts side → p.slot ≡ Some k → asked_in (half (value_of n).state side).slot ≡ Some k.task

@@ -1,27 +1,25 @@
-use Rattle.std.proofs.Common.{◌≡◌, ◌≢◌, ◌∙◌, ℕ, ◌<◌, ◌≤◌, Bool, true, false, not, ◌&&◌, ◌||◌, ◌⊎◌, inl, inr, Option, Some, None, is_some, nat_eq, nat_lt, List, [], ◌∷◌, ◌++◌, All, sym, subst, ap, refl, if◌then◌else◌}
+use Rattle.std.proofs.Common.{◌≡◌, ◌≢◌, ◌∙◌, ℕ, ◌<◌, Bool, true, false, not, ◌&&◌, ◌||◌, inl, inr, Option, Some, None, is_some, nat_eq, nat_lt, List, [], ◌∷◌, ◌++◌, All, sym, subst, ap, refl, if◌then◌else◌}
 use Rattle.std.proofs.lemmas.Bool.{eqb-true, eq-eqb, lt-ltb}
 use Rattle.std.proofs.lemmas.List.Elements.{All-head, All-tail}
 use Rattle.nego_laws.specs.Tree.{Tree, Laws, Solves}
 use Rattle.nego_node.specs.Truth.{entails_some, Serves}
-use Rattle.nego_node.specs.Machine.{Slot, Half, Trial, State, half, other, part_of, generation_of, answered_in, side_of, proposed_in, has_proposal}
+use Rattle.nego_node.specs.Machine.{Slot, Trial, State, half, other, part_of, generation_of, answered_in, side_of, has_proposal}
 use Rattle.nego_node.specs.Proposed.{Proposed}
-use Rattle.nego_node.specs.Lawful.{Has, Lawful, LeavesFree}
-use Rattle.nego_node.specs.Sound.{Keeps, IsSound, IsPlain, IsForTrial, SlotIsSound, TrialIsSound, IsBarred}
-use Rattle.nego_node.specs.Moves.{MayMove, IsMessage, OnlyMessages, seeks, is_exhausted, on_trial_in, is_present, is_spent, next_move, move_without_trial, move_in_trial, move_when_split}
-use Rattle.nego_node.specs.Decisions.{is_same, leaves_free, has_tried_all, allows, may_agree, may_forbid, may_refuse}
+use Rattle.nego_node.specs.Lawful.{Has, LeavesFree}
+use Rattle.nego_node.specs.Sound.{Keeps, IsSound, IsForTrial, SlotIsSound, TrialIsSound, IsBarred}
+use Rattle.nego_node.specs.Moves.{MayMove, OnlyMessages, seeks, is_exhausted, on_trial_in, is_present, is_spent, next_move, move_without_trial, move_in_trial, move_when_split}
+use Rattle.nego_node.specs.Decisions.{leaves_free, has_tried_all, allows, may_agree, may_forbid, may_refuse}
 use Rattle.nego_node.specs.declared.tasks.Task.{Task}
 use Rattle.nego_node.specs.declared.tasks.Side.{Side}
 use Rattle.nego_node.specs.declared.tasks.Side.TheVariants.{Left, Right}
-use Rattle.nego_node.specs.declared.answers.Answer.{Answer}
-use Rattle.nego_node.specs.declared.answers.Answer.TheVariants.{Proposal, Exhausted}
-use Rattle.nego_node.specs.declared.events.Event.{Event}
+use Rattle.nego_node.specs.declared.answers.Answer.TheVariants.{Proposal}
 use Rattle.nego_node.specs.declared.events.Event.TheVariants as event
 use Rattle.nego_node.specs.declared.moves.Move.{Move}
 use Rattle.nego_node.specs.declared.moves.Move.TheVariants.{Wait, Try, Split, Ask, Adopt, Agree, Forbid, Refuse, Exhaust}
 use Rattle.nego_node.proofs.Entailing.{and-left, and-right, and-both, or-cases, or-left, or-right, some-left, some-right, solves-above}
 use Rattle.nego_node.proofs.Sides.{none-some, same-some, other-other, half-sound, sound-for}
 use Rattle.nego_node.proofs.Moving.{proposed-has}
-use Rattle.nego_node.proofs.StateTests.{not-true, not-false, not-both, is-not-some, seeks-true, has-proposal, exhausted-has, proposal-has, true-seeks, trial-of, trial-none, tried-all}
+use Rattle.nego_node.proofs.StateTests.{not-true, not-false, not-both, seeks-true, has-proposal, exhausted-has, proposal-has, true-seeks, trial-of, trial-none, tried-all}
 use Rattle.nego_node.proofs.Deciding.{true-allows, true-spent, decides, side-same}
 
 -- a fact of both answers is one of the choice
@@ -291,8 +289,10 @@ module _ {O : Type 0} (tree : O → Tree O) (t : Tree O) (s : State O) where
       where
         no-wait : Exhaust ≡ Wait → ⊥
         no-wait e = cc
+
         no-wait-2 : {side : Side} → Adopt side ≡ Wait → ⊥
         no-wait-2 e = cc
+
         no-wait-3 : {side : Side} → Ask side ≡ Wait → ⊥
         no-wait-3 e = cc
     split-stuck (Some a) is =

@@ -1,5 +1,5 @@
 use Rattle.std.specs.Prelude.{ℕ, ◌<◌, ◌≡◌, Option, Some, None, List, [], ◌∷◌, ◌++◌, All}
-use Rattle.nego_node.specs.Machine.{Slot, Half, pick}
+use Rattle.nego_node.specs.Machine.{Slot, pick}
 use Rattle.nego_node.specs.declared.tasks.Task.{Task}
 use Rattle.nego_node.specs.declared.tasks.Side.{Side}
 use Rattle.nego_node.specs.declared.events.Event.{Event}

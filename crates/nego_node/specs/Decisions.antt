@@ -1,4 +1,4 @@
-use Rattle.std.specs.Prelude.{ℕ, Bool, true, false, not, ◌&&◌, ◌||◌, Option, Some, None, is_some, nat_eq, nat_lt, List}
+use Rattle.std.specs.Prelude.{Bool, true, false, not, ◌&&◌, ◌||◌, Option, Some, None, is_some, nat_eq, nat_lt, List}
 use Rattle.nego_laws.specs.Tree.{Tree}
 use Rattle.nego_node.specs.Truth.{entails_some}
 use Rattle.nego_node.specs.Machine.{State, half, other, generation_of, answered_in, proposed_in, has_proposal, side_of}

@@ -8,7 +8,7 @@ use crate::events::Event;
 use crate::node::NodeState;
 use crate::parts::{Asking, Tested};
 use crate::tasks::{Side, Task};
-use containers::{append_owners, copy_owners, Shared};
+use containers::{Shared, append_owners, copy_owners};
 use nego_laws::field::{Field, Offer};
 use std::alloc::AllocError;
 

@@ -139,7 +139,10 @@ impl<F: Field> NodeState<F> {
         }
     }
 
-    /// The next move. It is lawful unless it is Wait, and who is eager waits only where nothing is lawful but to take a message.
+    /// The next move: the first that fits. Without an open task wait; while an item is left try it; without parts give up; split. Without a
+    /// trial give up where a side that was asked without one is exhausted, adopt a proposal, the left one first, ask the left side, and, who
+    /// is eager, the right one too. In a trial ask the other side, or do what its answer calls for. The move is lawful unless it is Wait,
+    /// and who is eager waits only where nothing is lawful but to take a message. It takes no memory.
     pub fn next_move(&self, field: &F, eager: bool) -> Move
         requires tree { F.around self.now.site ≡ F.tree field.now }
         ensures next { result ≡ next_move (F.around self.now.site) eager self.now.state }
@@ -175,6 +178,7 @@ impl<F: Field> NodeState<F> {
             && !entails_some(field, offer, self.forbidden(side))
     }
 
+    /// Whether a side may be asked.
     fn may_ask(&self, field: &F, side: Side) -> bool
         requires tree { F.around self.now.site ≡ F.tree field.now }
         ensures { result ≡ may_ask (F.around self.now.site) self.now.state side }
@@ -185,6 +189,7 @@ impl<F: Field> NodeState<F> {
             && leaves_free(self.trial_side(), side)
     }
 
+    /// Whether the proposal of a side may be put to the other one.
     fn may_adopt(&self, field: &F, side: Side) -> bool
         requires tree { F.around self.now.site ≡ F.tree field.now }
         ensures { result ≡ may_adopt (F.around self.now.site) self.now.state side }
@@ -195,6 +200,7 @@ impl<F: Field> NodeState<F> {
             && self.allows(field, side)
     }
 
+    /// Whether the other side than that of the trial agrees, with an offer that is allowed.
     fn may_agree(&self, field: &F, trial: Option<Side>) -> bool
         requires tree { F.around self.now.site ≡ F.tree field.now }
         ensures { result ≡ may_agree (F.around self.now.site) self.now.state trial }
@@ -207,6 +213,7 @@ impl<F: Field> NodeState<F> {
         }
     }
 
+    /// Whether the other side than that of the trial has answered that no offer does, to what it was asked for the trial.
     fn may_forbid(&self, trial: Option<Side>) -> bool
         ensures { result ≡ may_forbid (F.around self.now.site) self.now.state trial }
     {
@@ -218,6 +225,7 @@ impl<F: Field> NodeState<F> {
         }
     }
 
+    /// Whether the other side than that of the trial has a proposal that it was not asked for under the held task.
     fn may_refuse(&self, trial: Option<Side>) -> bool
         ensures { result ≡ may_refuse (F.around self.now.site) self.now.state trial }
     {
@@ -229,6 +237,7 @@ impl<F: Field> NodeState<F> {
         }
     }
 
+    /// Whether the node may answer that no offer does.
     fn may_give_up(&self, field: &F) -> bool
         requires tree { F.around self.now.site ≡ F.tree field.now }
         ensures { result ≡ may_give_up (F.around self.now.site) self.now.state }
@@ -239,7 +248,7 @@ impl<F: Field> NodeState<F> {
                     && (self.is_spent(Side::Left) || self.is_spent(Side::Right)))
     }
 
-    /// Whether a move is lawful. Waiting is no move.
+    /// Whether a move is lawful. Waiting is no move, and so never is. It takes no memory.
     pub fn lawful(&self, field: &F, step: Move) -> bool
         requires tree { F.around self.now.site ≡ F.tree field.now }
         ensures { IsTrue result ↔ MayMove (F.around self.now.site) self.now.state step }
@@ -248,6 +257,7 @@ impl<F: Field> NodeState<F> {
         self.may_move(field, step)
     }
 
+    /// Whether a move is lawful, as a test of the state.
     fn may_move(&self, field: &F, step: Move) -> bool
         requires tree { F.around self.now.site ≡ F.tree field.now }
         ensures { result ≡ may_move (F.around self.now.site) self.now.state step }

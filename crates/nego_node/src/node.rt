@@ -2,6 +2,7 @@ ghost use Rattle.std.specs.Prelude.{◌≡◌, All, [], ◌≤◌, Some, OnOk, I
 ghost use Rattle.std.specs.Option.{is_some};
 ghost use Rattle.nego_node.specs.Machine.{beginning, half, generation_of, asked_in, answered_in, proposed_in, has_proposal, side_of, offer_of};
 ghost use Rattle.nego_node.specs.Lawful.{task_of};
+ghost use Rattle.nego_node.specs.NodeValue.{IsNode};
 ghost use Rattle.nego_node.specs.Sound.{Belongs, IsTrueAnswer};
 
 use crate::answers::Answer;
@@ -29,7 +30,7 @@ pub struct NodeState<F: Field> {
     pub(crate) history: Events<F::Offer>,
 }
 
-/// A list of nodes.
+/// A list of nodes, in the order of their names where a call says so.
 pub type Nodes<F> = Items<NodeState<F>>;
 
 impl<F: Field> Model for NodeState<F> {
@@ -69,7 +70,7 @@ impl<F: Field> NodeState<F> {
         }
     }
 
-    /// Makes room for that many events.
+    /// Makes room for that many more events, which `receive` and `post` need.
     pub fn reserve(&mut self, events: u32) -> Result<(), AllocError>
         ensures site { self.new.site ≡ self.old.site }
         ensures state { self.new.state ≡ self.old.state }
@@ -114,9 +115,11 @@ impl<F: Field> NodeState<F> {
         }
     }
 
-    /// The events that led to the state: replayed from the beginning they give it.
+    /// The events that led to the state. They are a run of lawful events from the beginning, which replayed give the state, and the node keeps
+    /// what every lawful event keeps.
     pub fn history(&self) -> &Events<F::Offer>
-        ensures { result.now.items ≡ self.now.history }
+        ensures events { result.now.items ≡ self.now.history }
+        ensures node { IsNode F.Offer.tree (F.around self.now.site) (F.named self.now.site) self.now.state self.now.history }
     {
         &self.history
     }

@@ -1,6 +1,6 @@
-use Rattle.std.proofs.Common.{◌≡◌, sym, subst}
+use Rattle.std.proofs.Common.{sym, subst}
 use Rattle.nego_node.specs.Machine.{State}
-use Rattle.nego_node.specs.Moves.{MayMove, Did}
+use Rattle.nego_node.specs.Moves.{MayMove}
 use Rattle.nego_node.proofs.node.NodeState.advance.Goals as goal
 
 pub do_move-requires-clause-lawful : goal.do_move-requires-clause-lawful

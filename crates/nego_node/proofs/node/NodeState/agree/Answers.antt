@@ -1,6 +1,6 @@
-use Rattle.std.proofs.Common.{◌≡◌, ◌∙◌, ap, rules, sym, subst, refl, Some}
+use Rattle.std.proofs.Common.{◌∙◌, ap, refl}
 use Rattle.nego_node.specs.NodeValue.{NodeValue}
-use Rattle.nego_node.specs.Machine.{after, half}
+use Rattle.nego_node.specs.Machine.{after}
 use Rattle.nego_node.specs.declared.events.Event.TheVariants.{Agreed}
 use Rattle.nego_node.proofs.OneEvent.{agreed-state, agreed-kept}
 use Rattle.nego_node.specs.Proposed.{Proposed}

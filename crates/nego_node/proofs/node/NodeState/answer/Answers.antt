@@ -1,4 +1,4 @@
-use Rattle.std.proofs.Common.{◌≡◌, ◌∙◌, sym, subst, Some}
+use Rattle.std.proofs.Common.{◌≡◌, subst, Some}
 use Rattle.nego_node.specs.NodeValue.{NodeValue}
 use Rattle.nego_node.specs.Lawful.{task_of}
 use Rattle.nego_node.specs.Sound.{Belongs, IsTrueAnswer}

@@ -1,4 +1,4 @@
-use Rattle.std.proofs.Common.{◌≡◌, ◌∙◌, ap, sym, subst, Some}
+use Rattle.std.proofs.Common.{◌∙◌, ap, sym, subst}
 use Rattle.nego_node.specs.NodeValue.{NodeValue}
 use Rattle.nego_node.specs.Machine.{half, answered_in}
 use Rattle.nego_node.specs.Sound.{IsTrueAnswer}

@@ -1,6 +1,5 @@
-use Rattle.std.proofs.Common.{◌≡◌, sym, subst}
+use Rattle.std.proofs.Common.{subst}
 use Rattle.nego_node.specs.NodeValue.{NodeValue}
-use Rattle.nego_node.specs.NodeView.{value_of}
 use Rattle.nego_node.specs.Sound.{Belongs}
 use Rattle.nego_node.proofs.Conditions.{asked-mine}
 use Rattle.nego_node.proofs.Steps.{asked-here}

@@ -1,4 +1,4 @@
-use Rattle.std.proofs.Common.{◌≡◌, ◌∙◌, ap, sym, Some}
+use Rattle.std.proofs.Common.{◌∙◌, ap, sym, Some}
 use Rattle.nego_node.proofs.Moving.{agree-at}
 use Rattle.nego_node.proofs.node.NodeState.do_agree.Goals as goal
 

@@ -1,4 +1,4 @@
-use Rattle.std.proofs.Common.{◌≡◌, ◌∙◌, ap, sym, Some, refl}
+use Rattle.std.proofs.Common.{◌∙◌, ap, sym, Some, refl}
 use Rattle.nego_node.specs.declared.events.Event.TheVariants.{Asked}
 use Rattle.nego_node.proofs.Moving.{ask-at}
 use Rattle.nego_node.proofs.node.NodeState.do_ask.Goals as goal

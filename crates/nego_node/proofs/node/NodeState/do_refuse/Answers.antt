@@ -1,4 +1,4 @@
-use Rattle.std.proofs.Common.{◌≡◌, ◌∙◌, sym}
+use Rattle.std.proofs.Common.{◌∙◌, sym}
 use Rattle.nego_node.proofs.Moving.{refuse-at}
 use Rattle.nego_node.proofs.node.NodeState.do_refuse.Goals as goal
 

@@ -1,4 +1,4 @@
-use Rattle.std.proofs.Common.{◌≡◌, ◌∙◌, sym, subst}
+use Rattle.std.proofs.Common.{sym, subst}
 use Rattle.nego_laws.specs.Tree.{Tree}
 use Rattle.nego_node.specs.Sound.{Belongs}
 use Rattle.nego_node.specs.declared.tasks.Task.{Task}

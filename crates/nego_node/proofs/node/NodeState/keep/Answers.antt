@@ -1,4 +1,4 @@
-use Rattle.std.proofs.Common.{◌≡◌, ◌∙◌, ap, rules, sym, subst, refl}
+use Rattle.std.proofs.Common.{◌∙◌, ap}
 use Rattle.nego_node.specs.NodeValue.{NodeValue}
 use Rattle.nego_node.specs.Machine.{after}
 use Rattle.nego_node.specs.declared.events.Event.TheVariants.{Posted}

@@ -1,4 +1,4 @@
-use Rattle.std.proofs.Common.{◌≡◌, ◌∙◌, sym, subst}
+use Rattle.std.proofs.Common.{◌∙◌, sym, subst}
 use Rattle.nego_node.specs.NodeValue.{NodeValue}
 use Rattle.nego_node.specs.Sound.{Keeps}
 use Rattle.nego_node.proofs.Deciding.{decides, decided}

@@ -1,5 +1,5 @@
-use Rattle.std.proofs.Common.{◌≡◌, ◌∙◌, ap, Some, rules}
-use Rattle.nego_node.proofs.Conditions.{may-post, true-answer}
+use Rattle.std.proofs.Common.{◌∙◌, ap, Some}
+use Rattle.nego_node.proofs.Conditions.{may-post}
 use Rattle.nego_node.proofs.node.NodeState.post.Goals as goal
 
 pub keep-requires-clause-lawful : goal.keep-requires-clause-lawful
