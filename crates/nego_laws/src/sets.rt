@@ -1,0 +1,151 @@
+ghost use Rattle.std.specs.Prelude.{◌≡◌, [], ◌∷◌, option_copied, IfOk};
+ghost use Rattle.nego_laws.specs.Sets.{site_named, set_tree, needs_of, parted_of};
+ghost use Rattle.nego_laws.specs.SetLaws.{set_laws};
+
+use crate::field::{Field, Offer};
+use containers::{Items, Shared};
+use std::alloc::AllocError;
+
+/// A site, whether it has parts, and the set that each of its items needs.
+#[derive(Drop)]
+pub struct SetSite {
+    pub name: u128,
+    pub parted: bool,
+    pub needs: Items<u64>,
+}
+
+/// The sites of a tree, with a limit that is above each name.
+#[derive(Drop)]
+pub struct SetTree {
+    pub limit: u128,
+    pub sites: Items<SetSite>,
+}
+
+/// A set of numbers below 64, as bits.
+#[derive(Drop)]
+pub struct SetOffer {
+    pub set: u64,
+    pub tree: Shared<SetTree>,
+}
+
+impl Offer for SetOffer {
+    ghost tree = { λ s. set_tree s.tree };
+}
+
+/// A place in the tree.
+#[derive(Drop)]
+pub struct SetPlace {
+    pub name: u128,
+    pub tree: Shared<SetTree>,
+}
+
+/// Offers are sets, and one entails another where it has all of its numbers.
+#[derive(Drop)]
+pub struct SetField {
+    pub tree: Shared<SetTree>,
+}
+
+/// The site of a name.
+fn find(sites: &[SetSite], name: u128) -> Option<&SetSite>
+    ensures { option_copied result ≡ site_named sites.now name }
+{
+    match sites {
+        [] => None,
+        [first, rest @ ..] => {
+            if first.name == name {
+                Some(first)
+            } else {
+                find(rest, name)
+            }
+        }
+    }
+}
+
+impl Field for SetField {
+    type Offer = SetOffer;
+
+    type Site = SetPlace;
+
+    ghost tree = { λ f. set_tree f.tree };
+
+    ghost around = { λ site. set_tree site.tree };
+
+    ghost named = { λ site. site.name };
+
+    fn root(&self) -> Result<SetPlace, AllocError> {
+        Ok(SetPlace {
+            name: 1,
+            tree: self.tree.copy()?,
+        })
+    }
+
+    fn name(&self, site: &SetPlace) -> u128 {
+        site.name
+    }
+
+    fn free(&self) -> Result<SetOffer, AllocError> {
+        Ok(SetOffer {
+            set: 0,
+            tree: self.tree.copy()?,
+        })
+    }
+
+    fn items(&self, site: &SetPlace) -> u64 {
+        match find(self.tree.get().sites.as_slice(), site.name) {
+            None => 0,
+            Some(found) => found.needs.len() as u64,
+        }
+    }
+
+    fn has_parts(&self, site: &SetPlace) -> bool {
+        let tree = self.tree.get();
+        match find(tree.sites.as_slice(), site.name) {
+            None => false,
+            Some(found) => found.parted
+                && site.name > 0
+                && site.name < tree.limit / 2
+                && 2 * site.name + 1 < tree.limit,
+        }
+    }
+
+    fn attempt(
+        &self,
+        site: &SetPlace,
+        item: u64,
+        given: &SetOffer,
+    ) -> Result<Option<SetOffer>, AllocError> {
+        match find(self.tree.get().sites.as_slice(), site.name) {
+            None => Ok(None),
+            Some(found) => Ok(Some(SetOffer {
+                set: given.set | found.needs.as_slice()[item as usize],
+                tree: self.tree.copy()?,
+            })),
+        }
+    }
+
+    fn parts(&self, site: &SetPlace) -> Result<Option<(SetPlace, SetPlace)>, AllocError> {
+        let limit = self.tree.get().limit;
+        if !self.has_parts(site) {
+            return Ok(None);
+        }
+        let left = SetPlace {
+            name: 2 * site.name,
+            tree: self.tree.copy()?,
+        };
+        let right = SetPlace {
+            name: 2 * site.name + 1,
+            tree: self.tree.copy()?,
+        };
+        Ok(Some((left, right)))
+    }
+
+    fn entails(&self, a: &SetOffer, b: &SetOffer) -> bool {
+        a.set | b.set == a.set
+    }
+
+    fn same(&self, a: &SetOffer, b: &SetOffer) -> bool {
+        a.set == b.set
+    }
+
+    ghost laws = { λ f. set_laws f.tree };
+}
