@@ -1,0 +1,14 @@
+use Rattle.fol_core.specs.View.{formulas_of}
+use Rattle.gs3_rules.specs.Apply.{rules_of}
+use Rattle.prop_tableau.proofs.Progressing.{from_root, open_root}
+use Rattle.prop_tableau.proofs.search.find_proof.Goals as goal
+
+pub returns-then-branch : goal.returns-then-branch
+returns-then-branch c =
+    from_root (formulas_of c.args.start.now) (rules_of c.close_branch.new.steps)
+    (rw c.if-branch.true at (rw c.in_ok-branch.ensures.entries at (rw c.new-steps.ensures at c.in_ok-close_branch.ensures.outcome)))
+
+pub returns : goal.returns
+returns c =
+    open_root (formulas_of c.args.start.now) (rules_of c.close_branch.new.steps)
+    (rw c.if-branch.false at (rw c.in_ok-branch.ensures.entries at (rw c.new-steps.ensures at c.in_ok-close_branch.ensures.outcome)))

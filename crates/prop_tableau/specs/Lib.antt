@@ -1,0 +1,9 @@
+pub mod Tableau
+pub mod State
+pub mod Views
+pub mod Items
+pub mod Index
+pub mod BranchView
+pub mod Scan
+pub mod Search
+pub mod Progresses
