@@ -1,0 +1,113 @@
+-- What a run answers, what it prints, and why.
+use Rattle.std.specs.Prelude.{◌≡◌, ◌≢◌, ◌⊎◌, ℕ, ◌<◌, Bool, true, false, List, [], ◌∷◌, ◌++◌, map, codes, Option, IfSome, String, string_bytes, is_some, length}
+use Rattle.gl_outside.specs.Outside.{HasRisen, Appends, AppendsFront}
+use Rattle.fof_parse.specs.Problem.{PlainProblem, IsProblemText, IsNoProblem, Start}
+use Rattle.gs3_rules.specs.Refutes.{ProofTree, Refutes}
+use Rattle.gs3_text.specs.ProofText.{text_of, ProofText}
+use Rattle.prop_tableau.specs.Tableau.{Closes, IsOpen}
+use Rattle.goeland.specs.declared.run.Report.{Report}
+use Rattle.goeland.specs.declared.run.Report.TheVariants.{Usage, TooLarge, NotBuilt, ReadFault, Proved}
+use Rattle.goeland.specs.declared.run.Status.{Status}
+use Rattle.goeland.specs.declared.run.Status.TheVariants as status
+
+-- the words of a run that proves the standard input
+abbrev pub prove_words : List (List ℕ)
+prove_words = codes "prove" ∷ codes "-" ∷ []
+
+abbrev pub words_of : {Z : Type 0} → List (String Z) → List (List ℕ)
+words_of words = map string_bytes words
+
+abbrev pub status_line : Bool → List ℕ
+status_line true = codes "% SZS status Theorem for -"
+status_line false = codes "% SZS status Unsatisfiable for -"
+
+-- the lines before a proof
+abbrev pub head_lines : Bool → List (List ℕ)
+head_lines theorem = status_line theorem ∷ codes "% depth 1" ∷ codes "% engine plain" ∷ codes "% SZS output start Proof for -" ∷ []
+
+abbrev pub last_lines : List (List ℕ)
+last_lines = codes "% SZS output end Proof for -" ∷ []
+
+-- what is printed before the body of a report
+abbrev pub head_of : Report → List ℕ
+head_of Usage = text_of (codes "% usage: goeland prove [OPTIONS] [FILE] or goeland bench N [--workers W]" ∷ [])
+head_of TooLarge = text_of (codes "% refused TooLarge" ∷ [])
+head_of NotBuilt = text_of (codes "% refused NotBuilt" ∷ [])
+head_of ReadFault = text_of (codes "% read fault" ∷ [])
+head_of (Proved theorem body) = text_of (head_lines theorem)
+
+abbrev pub body_of : Report → List ℕ
+body_of Usage = []
+body_of TooLarge = []
+body_of NotBuilt = []
+body_of ReadFault = []
+body_of (Proved theorem body) = body.items
+
+-- all that is printed
+abbrev pub printed : Report → List ℕ
+printed r = head_of r ++ body_of r
+
+abbrev pub status_of : Report → Status
+status_of Usage = status.Usage
+status_of TooLarge = status.Refused
+status_of NotBuilt = status.Refused
+status_of ReadFault = status.ReadFault
+status_of (Proved theorem body) = status.Proved
+
+-- the most bytes of a problem
+abbrev pub most_bytes : ℕ
+most_bytes = 16777216
+
+-- a problem of this text whose tableau does not close
+pub record IsOpenProblem (bytes : List ℕ) : Type 0 where
+  pub problem : PlainProblem
+  pub text : IsProblemText bytes problem
+  pub is_open : IsOpen (Start problem)
+
+-- The text is a problem whose tableau closes, and what is printed is a proof text of a tree that refutes its start
+-- list. A problem with a conjecture is a theorem.
+pub record IsProof (bytes : List ℕ) (theorem : Bool) (text : List ℕ) : Type 0 where
+  pub problem : PlainProblem
+  pub of_text : IsProblemText bytes problem
+  pub status : theorem ≡ is_some problem.conjecture
+  pub closes : Closes (Start problem)
+  pub tree : ProofTree
+  pub refutes : Refutes (Start problem) tree
+  pub is_text : ProofText problem.symbols.functions text tree
+
+-- what is reported of bytes
+abbrev pub Answers : List ℕ → Report → Type 0
+Answers bytes Usage = ⊥
+Answers bytes ReadFault = ⊥
+Answers bytes TooLarge = most_bytes < length bytes
+Answers bytes NotBuilt = IsNoProblem bytes ⊎ IsOpenProblem bytes
+Answers bytes (Proved theorem body) = IsProof bytes theorem (printed (Proved theorem body))
+
+-- What is reported of a problem, whose text is at hand.
+abbrev pub AnswersProblem : PlainProblem → Report → Type 0
+AnswersProblem problem r = (bytes : List ℕ) → IsProblemText bytes problem → Answers bytes r
+
+abbrev pub AnswersRead : Option (List ℕ) → Report → Type 0
+AnswersRead told r = (bytes : List ℕ) × IfSome told (λ b. bytes ≡ b) × Answers bytes r
+
+-- What is reported of the words, of the bytes of the standard input, where they are told, and of the shelf's faults
+-- before and after.
+abbrev pub Fits : List (List ℕ) → Option (List ℕ) → ℕ → ℕ → Report → Type 0
+Fits words told before after Usage = (words ≢ prove_words) × (after ≡ before)
+Fits words told before after ReadFault = (words ≡ prove_words) × HasRisen before after
+Fits words told before after TooLarge = (words ≡ prove_words) × (after ≡ before) × IfSome told (λ b. most_bytes < length b)
+Fits words told before after NotBuilt = (words ≡ prove_words) × (after ≡ before) × AnswersRead told NotBuilt
+Fits words told before after (Proved theorem body) = (words ≡ prove_words) × (after ≡ before) × AnswersRead told (Proved theorem body)
+
+-- The report is printed whole, or the sink failed after some front of it.
+abbrev pub Prints : Report → Option (List ℕ) → Option (List ℕ) → ℕ → ℕ → Status → Type 0
+Prints r old new before after s =
+    ((s ≡ status_of r) × Appends old (printed r) new × (after ≡ before))
+    ⊎ ((s ≡ status.WriteFault) × AppendsFront old (printed r) new × HasRisen before after)
+
+-- A run with these words: its report is as it has to be, and is printed. After want of memory nothing was written, and
+-- no fault came.
+abbrev pub Ran : List (List ℕ) → Option (List ℕ) → ℕ → ℕ → Option (List ℕ) → Option (List ℕ) → ℕ → ℕ → Status → Type 0
+Ran words told before after old new faults faults' s =
+    ((s ≡ status.OutOfMemory) × (after ≡ before) × (new ≡ old) × (faults' ≡ faults))
+    ⊎ ((r : Report) × Fits words told before after r × Prints r old new faults faults' s)
