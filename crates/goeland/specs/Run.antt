@@ -54,6 +54,15 @@ status_of NotBuilt = status.Refused
 status_of ReadFault = status.ReadFault
 status_of (Proved theorem body) = status.Proved
 
+-- the number that the process ends with
+abbrev pub exit_of : Status → ℕ
+exit_of status.Proved = 0
+exit_of status.Usage = 2
+exit_of status.Refused = 3
+exit_of status.ReadFault = 4
+exit_of status.WriteFault = 5
+exit_of status.OutOfMemory = 6
+
 -- the most bytes of a problem
 abbrev pub most_bytes : ℕ
 most_bytes = 16777216

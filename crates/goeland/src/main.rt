@@ -1,15 +1,22 @@
 //! The command `goeland`.
 #![tactic(auto)]
 
+ghost use Rattle.std.specs.Prelude.{◌≡◌};
+ghost use Rattle.std.specs.Process.{exit_status};
+ghost use Rattle.goeland.specs.Run.{exit_of};
+
 mod run;
 
 use crate::run::{Status, run_alone};
 use gl_outside::{HostShelf, HostSink};
+use std::env;
+use std::io::{self, ErrorKind};
 use std::process::ExitCode;
-use std::{env, io};
 
 /// The exit code that tells how a run ended.
-fn exit_code(status: Status) -> ExitCode {
+fn exit_code(status: Status) -> ExitCode
+    ensures { exit_status result ≡ exit_of status }
+{
     match status {
         Status::Proved => ExitCode::SUCCESS,
         Status::Usage => ExitCode::from(2),
@@ -20,10 +27,20 @@ fn exit_code(status: Status) -> ExitCode {
     }
 }
 
-fn main(rt: HostRuntime) -> io::Result<ExitCode> {
+/// The words after the command's name.
+fn command_words(rt: &HostRuntime) -> io::Result<Vec<String>> {
+    Ok(env::args(rt)?.skip(1).collect(rt.alloc())?)
+}
+
+fn main(rt: HostRuntime) -> ExitCode {
     let alloc = rt.alloc();
-    let words: Vec<String> = env::args(&rt)?.skip(1).collect(alloc)?;
+    let words = match command_words(&rt) {
+        Ok(words) => words,
+        // A word that is no text is none that the command takes.
+        Err(error) if error.kind() == ErrorKind::InvalidData => Vec::new(alloc),
+        Err(_) => return exit_code(Status::OutOfMemory),
+    };
     let mut shelf = HostShelf::new(&rt);
     let mut out = HostSink::new(&rt);
-    Ok(exit_code(run_alone(alloc, words.as_slice(), &mut shelf, &mut out)))
+    exit_code(run_alone(alloc, words.as_slice(), &mut shelf, &mut out))
 }
