@@ -1,0 +1,5 @@
+pub mod Bytes
+pub mod Tokens
+pub mod Reading
+pub mod Views
+pub mod Refusal

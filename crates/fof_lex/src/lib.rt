@@ -1,0 +1,15 @@
+//! The tokens of a TPTP text.
+#![tactic(auto)]
+
+mod law;
+mod piece;
+mod runs;
+mod text;
+mod token;
+
+pub use law::one_reading;
+pub use text::{LexError, lex};
+pub use token::{Connective, Kind, Mark, Token, Tokens};
+
+#[cfg(test)]
+mod tests;
