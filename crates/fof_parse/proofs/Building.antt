@@ -1,5 +1,5 @@
 -- The problem of the statements so far, and of one more.
-use Rattle.std.proofs.Common.{◌≡◌, ℕ, ◌+◌, ◌≤◌, suc, Bool, true, false, cond, not, List, [], ◌∷◌, ◌++◌, map, length, filter, Option, Some, None, refl, sym, ap, subst, ◌∙◌, arith, length-append, append-nil}
+use Rattle.std.proofs.Common.{◌≡◌, ◌+◌, suc, Bool, true, false, cond, not, List, [], ◌∷◌, ◌++◌, map, length, filter, Option, Some, None, refl, sym, ap, subst, ◌∙◌, arith, length-append, append-nil}
 use Rattle.std.specs.Prelude.{option_to_list, IsSome}
 use Rattle.std.specs.List.{flat_map}
 use Rattle.std.proofs.lemmas.Bool.{false≢true}
@@ -7,11 +7,11 @@ use Rattle.std.proofs.lemmas.Grind.{flat_map-append}
 use Rattle.std.proofs.lemmas.List.{map-append}
 use Rattle.std.proofs.lemmas.List.Elements.{filter-append}
 use Rattle.fol_core.specs.Syntax.{PlainFormula}
-use Rattle.fol_core.specs.Symbol.{Symbol, IsAt}
+use Rattle.fol_core.specs.Symbol.{Symbol}
 use Rattle.fof_parse.specs.declared.statement.Role.{Role}
 use Rattle.fof_parse.specs.declared.statement.Role.TheVariants.{Axiom, Conjecture}
 use Rattle.fof_parse.specs.Grammar.{Sentence, Statement, is_conjecture, is_conjecture_role}
-use Rattle.fof_parse.specs.Problem.{PlainProblem, InternsAll, predicates_in, IsPlain, ArePlain, formulas_in, label_of, IsProblemOf}
+use Rattle.fof_parse.specs.Problem.{PlainProblem, InternsAll, predicates_in, ArePlain, formulas_in, label_of, IsProblemOf}
 use Rattle.fof_parse.specs.Adding.{Adds, Places, IsSecondConjecture}
 use Rattle.fof_parse.proofs.Interning.{interns_all_keeps, interns_all-append, all_kept}
 

@@ -1,9 +1,9 @@
 -- Symbols keep their numbers when others are put at the end of the table.
-use Rattle.std.proofs.Common.{◌≡◌, ℕ, zero, suc, List, [], ◌∷◌, ◌++◌, Option, Some, None, refl, sym, ap, subst, ◌∙◌, inl, inr, ⊎_elim}
+use Rattle.std.proofs.Common.{◌≡◌, ℕ, zero, suc, List, [], ◌∷◌, ◌++◌, Some, sym, subst, ⊎_elim}
 use Rattle.std.specs.Prelude.{slice_get}
-use Rattle.fol_core.specs.Syntax.{PlainFormula, imp}
+use Rattle.fol_core.specs.Syntax.{PlainFormula}
 use Rattle.fol_core.specs.Symbol.{Symbol, IsAt, Interns}
-use Rattle.fof_parse.specs.Grammar.{Sentence, name, implication}
+use Rattle.fof_parse.specs.Grammar.{Sentence, name, negation, binary}
 use Rattle.fof_parse.specs.Problem.{InternsAll, proposition, IsAtom, IsPlain, ArePlain}
 
 at_front : (xs ys : List Symbol) (n : ℕ) (s : Symbol) → slice_get xs n ≡ Some s → slice_get (xs ++ ys) n ≡ Some s
@@ -30,15 +30,11 @@ module _ (old new : List Symbol) (keeps : (t : Symbol) (n : ℕ) → IsAt old t 
 
   pub plain_kept : (s : Sentence) (a : PlainFormula) → IsPlain old s a → IsPlain new s a
   plain_kept (name w) a h = atom_kept w a h
-  plain_kept (implication v w) a h = (h.0, h.1, atom_kept v h.0 h.2, atom_kept w h.1 h.3, h.4)
+  plain_kept (negation s) a h = (h.0, plain_kept s h.0 h.1, h.2)
+  plain_kept (binary op s t) a h = (h.0, h.1, plain_kept s h.0 h.2, plain_kept t h.1 h.3, h.4)
 
   pub all_kept : (ss : List Sentence) (bs : List PlainFormula) → ArePlain old ss bs → ArePlain new ss bs
   all_kept [] [] h = tt
   all_kept [] (b ∷ bs) h = h
   all_kept (s ∷ ss) [] h = h
   all_kept (s ∷ ss) (b ∷ bs) h = (plain_kept s b h.0, all_kept ss bs h.1)
-
-pub plain_implication : (mid new : List Symbol) (v w : List ℕ) (a b c : PlainFormula) → IsAtom mid v a → Interns mid (proposition w) new → IsAtom new w b → c ≡ imp a b
-    → IsPlain new (implication v w) c
-plain_implication mid new v w a b c left added right is =
-    (a, b, atom_kept mid new (λ t n. interns_keeps mid new (proposition w) t n added) v a left, right, is)

@@ -1,7 +1,7 @@
 -- Statements that were read one after the other, and what the grammar says of the whole text.
 use Rattle.std.proofs.Common.{◌≡◌, ◌≢◌, ℕ, List, [], ◌∷◌, ◌++◌, Option, Some, None, refl, sym, ap, subst, ◌∙◌, append_assoc, ⊎_elim}
 use Rattle.fof_parse.specs.Token.{Token, tokens}
-use Rattle.fof_parse.specs.Grammar.{Statement, IsStatement, AreStatements}
+use Rattle.fof_parse.specs.Grammar.{Statement, AreStatements}
 use Rattle.fof_parse.specs.Reading.{statement_at, Leads}
 use Rattle.fof_parse.specs.Problem.{PlainProblem, empty_problem, IsProblemOf, IsProblemText, IsNoProblem}
 use Rattle.fof_parse.specs.Adding.{Adds, IsSecondConjecture, EndsReading, GoesOn}

@@ -1,16 +1,11 @@
 -- A lower word can be the name of a symbol.
-use Rattle.std.proofs.Common.{◌≡◌, ℕ, ◌<◌, ◌≤◌, Bool, true, false, ◌&&◌, List, [], ◌∷◌, length, Some, refl, sym, arith}
+use Rattle.std.proofs.Common.{◌≡◌, ℕ, ◌≤◌, Bool, true, false, ◌&&◌, List, [], ◌∷◌, refl, arith}
 use Rattle.std.specs.List.{All, list_all}
 use Rattle.std.proofs.lemmas.Bool.{false≢true}
 use Rattle.std.proofs.lemmas.Bool.Decides.{nat_tests}
 use Rattle.std.proofs.lemmas.List.Elements.{All-nil, All-cons}
 use Rattle.fol_core.specs.Spelling.{is_between, is_word_byte, is_lower_word}
 use Rattle.fol_core.specs.Symbol.{IsSymbolName}
-use Rattle.fof_parse.specs.Token.{Token}
-use Rattle.fof_parse.specs.Grammar.{Sentence, Statement, IsFormula, a_name, an_implication}
-use Rattle.fof_parse.specs.Reading.{statement_at}
-use Rattle.fof_parse.specs.Adding.{HasNames, IsNamed}
-use Rattle.fof_parse.proofs.Statements.{statement_at_is}
 
 both : (a b : Bool) → (a && b) ≡ true → (a ≡ true) × (b ≡ true)
 both true b h = (refl, h)
@@ -32,10 +27,3 @@ lower_name [] h = absurd (false≢true h)
 lower_name (c ∷ cs) h =
     let b = both (is_between 97 122 c) (list_all is_word_byte cs) h in
     (omega arith, All-cons (λ c. (32 ≤ c) × (c ≤ 126)) c cs (small_letter c b.0) (word_bytes cs b.1))
-
-formula_named : {body : List Token} {s : Sentence} → IsFormula body s → HasNames s
-formula_named (a_name w h) = lower_name w h
-formula_named (an_implication v w h k) = (lower_name v h, lower_name w k)
-
-pub statement_named : (ts rest : List Token) (st : Statement) → Some (st, rest) ≡ statement_at ts → IsNamed st
-statement_named ts rest st h = formula_named (statement_at_is ts (st, rest) (sym h)).1.of_formula

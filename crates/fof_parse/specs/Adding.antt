@@ -1,26 +1,23 @@
 -- One statement more.
-use Rattle.std.specs.Prelude.{◌≡◌, ◌⊎◌, List, [], ◌∷◌, ◌++◌, Option, Some, None, IsSome}
+use Rattle.std.specs.Prelude.{◌≡◌, ◌⊎◌, List, [], ◌∷◌, ◌++◌, Some, None, IsSome}
 use Rattle.fol_core.specs.Syntax.{PlainFormula}
-use Rattle.fol_core.specs.Symbol.{IsSymbolName}
 use Rattle.fof_parse.specs.declared.statement.Role.{Role}
 use Rattle.fof_parse.specs.declared.statement.Role.TheVariants.{Axiom, Conjecture}
 use Rattle.fof_parse.specs.Token.{Token}
 use Rattle.fof_parse.specs.Reading.{statement_at}
-use Rattle.fof_parse.specs.Grammar.{Sentence, name, implication, Statement}
-use Rattle.fof_parse.specs.Problem.{PlainProblem, InternsAll, predicates_in, IsPlain, label_of}
-
--- the words of a formula can be names of symbols
-abbrev pub HasNames : Sentence → Type 0
-HasNames (name w) = IsSymbolName w
-HasNames (implication v w) = IsSymbolName v × IsSymbolName w
-
-abbrev pub IsNamed : Statement → Type 0
-IsNamed st = HasNames st.formula
+use Rattle.fof_parse.specs.Grammar.{Statement}
+use Rattle.fof_parse.specs.Problem.{PlainProblem, Label, InternsAll, predicates_in, IsPlain, label_of}
 
 -- where the statement's formula goes
 abbrev pub Places : Role → PlainFormula → PlainProblem → PlainProblem → Type 0
 Places Axiom a old new = (new.axioms ≡ old.axioms ++ a ∷ []) × (new.conjecture ≡ old.conjecture)
 Places Conjecture a old new = (new.axioms ≡ old.axioms) × (old.conjecture ≡ None) × (new.conjecture ≡ Some a)
+
+-- A statement's formula goes to its place, over the same symbols.
+pub record Puts (old : PlainProblem) (of : Label) (a : PlainFormula) (new : PlainProblem) : Type 0 where
+  pub symbols : new.symbols ≡ old.symbols
+  pub labels : new.labels ≡ old.labels ++ of ∷ []
+  pub placed : Places of.role a old new
 
 pub record Adds (old : PlainProblem) (st : Statement) (new : PlainProblem) : Type 0 where
   pub functions : new.symbols.functions ≡ old.symbols.functions

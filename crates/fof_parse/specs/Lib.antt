@@ -1,8 +1,11 @@
 pub mod Runs
 pub mod Token
 pub mod Views
+pub mod Nesting
 pub mod Grammar
 pub mod Problem
 pub mod ProblemView
 pub mod Adding
 pub mod Reading
+pub mod Parsing
+pub mod TheProblem

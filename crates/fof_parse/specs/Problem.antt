@@ -1,12 +1,14 @@
 -- The problem of a text, and its start list.
-use Rattle.std.specs.Prelude.{◌≡◌, ℕ, Bool, true, false, not, List, [], ◌∷◌, ◌++◌, map, filter, Option, Some, None, option_to_list}
+use Rattle.std.specs.Prelude.{◌≡◌, ℕ, Bool, not, List, [], ◌∷◌, ◌++◌, map, filter, Option, None, option_to_list}
 use Rattle.std.specs.List.{flat_map}
-use Rattle.fol_core.specs.Syntax.{PlainFormula, atom, imp, no_terms}
+use Rattle.fol_core.specs.Syntax.{PlainFormula, atom, and, or, imp, no_terms}
 use Rattle.fol_core.specs.Syntax as syntax
 use Rattle.fol_core.specs.Symbol.{Symbol, SymbolTable, IsAt, Interns}
+use Rattle.fof_parse.specs.declared.token.Operator.{Operator}
+use Rattle.fof_parse.specs.declared.token.Operator.TheVariants.{Implies, And, Or}
 use Rattle.fof_parse.specs.declared.statement.Role.{Role}
 use Rattle.fof_parse.specs.Token.{tokens}
-use Rattle.fof_parse.specs.Grammar.{Sentence, name, implication, Statement, AreStatements, is_conjecture}
+use Rattle.fof_parse.specs.Grammar.{Sentence, name, negation, binary, Statement, AreStatements, is_conjecture}
 
 -- a statement's name and role
 pub record Label : Type 0 where
@@ -35,7 +37,13 @@ proposition w = (w, 0)
 -- the predicate symbols of a formula, as they stand from left to right
 abbrev pub predicates_in : Sentence → List Symbol
 predicates_in (name w) = proposition w ∷ []
-predicates_in (implication v w) = proposition v ∷ proposition w ∷ []
+predicates_in (negation s) = predicates_in s
+predicates_in (binary op s t) = predicates_in s ++ predicates_in t
+
+abbrev pub plain_binary : Operator → PlainFormula → PlainFormula → PlainFormula
+plain_binary Implies a b = imp a b
+plain_binary And a b = and a b
+plain_binary Or a b = or a b
 
 -- an atom whose symbol has its number in the table
 abbrev pub IsAtom : List Symbol → List ℕ → PlainFormula → Type 0
@@ -44,7 +52,8 @@ IsAtom table w a = (n : ℕ) × IsAt table (proposition w) n × (a ≡ atom n no
 -- the formula, with each symbol as its number in the table
 abbrev pub IsPlain : List Symbol → Sentence → PlainFormula → Type 0
 IsPlain table (name w) a = IsAtom table w a
-IsPlain table (implication v w) a = (b c : PlainFormula) × IsAtom table v b × IsAtom table w c × (a ≡ imp b c)
+IsPlain table (negation s) a = (b : PlainFormula) × IsPlain table s b × (a ≡ syntax.not b)
+IsPlain table (binary op s t) a = (b c : PlainFormula) × IsPlain table s b × IsPlain table t c × (a ≡ plain_binary op b c)
 
 abbrev pub ArePlain : List Symbol → List Sentence → List PlainFormula → Type 0
 ArePlain table [] [] = Unit {0}
@@ -55,8 +64,11 @@ ArePlain table (s ∷ ss) (a ∷ bs) = IsPlain table s a × ArePlain table ss bs
 abbrev pub formulas_in : (Statement → Bool) → List Statement → List Sentence
 formulas_in p sts = map (λ st. st.formula) (filter p sts)
 
+abbrev pub label : List ℕ → Role → Label
+label w r = record { name = w; role = r }
+
 abbrev pub label_of : Statement → Label
-label_of st = record { name = st.name; role = st.role }
+label_of st = label st.name st.role
 
 -- The problem of the statements. Its one conjecture, or none, are the formulas of all the conjectures.
 pub record IsProblemOf (sts : List Statement) (problem : PlainProblem) : Type 0 where

@@ -1,18 +1,22 @@
 //! A problem: its symbols, its statements and their formulas.
 
-ghost use Rattle.std.specs.Prelude.{◌≡◌, [], None, MatchOption, IfOk, OnOk};
+ghost use Rattle.std.specs.Prelude.{◌≡◌, [], None, MatchOption, IfOk, IsSome};
 ghost use Rattle.fol_core.specs.Syntax.{not};
 ghost use Rattle.fol_core.specs.View.{formula_of, formulas_of};
-ghost use Rattle.fol_core.specs.Symbol.{IsSymbolName, Interns};
-ghost use Rattle.fof_parse.specs.Problem.{proposition, predicates_in, IsAtom, IsPlain, InternsAll, Start, empty_problem};
-ghost use Rattle.fof_parse.specs.Views.{sentence_of, statement_of};
+ghost use Rattle.fof_parse.specs.Token.{tokens};
+ghost use Rattle.fof_parse.specs.Problem.{Start, empty_problem, label};
 ghost use Rattle.fof_parse.specs.ProblemView.{plain_problem};
-ghost use Rattle.fof_parse.specs.Adding.{HasNames, IsNamed, Adds, IsSecondConjecture};
+ghost use Rattle.fof_parse.specs.Adding.{Puts, EndsReading, GoesOn};
 
-use crate::statement::{FormulaText, Role, StatementText};
+use crate::formula::formula;
+use crate::statement::{Role, ending_at, heading_at};
 use containers::{Boxed, Items};
 use fol_core::{Formula, Formulas, Symbols};
 use std::alloc::{AllocError, Global};
+
+/// How large the nesting count of a statement may become. It begins at 0; `(`, `~` and the operators add 1, and `)` sets
+/// it back to what it was before its `(`.
+pub const MAX_NESTING: u32 = 500;
 
 /// A statement's name and what it is for.
 #[derive(Drop)]
@@ -45,62 +49,27 @@ pub(crate) fn empty_problem(alloc: Global) -> Problem
     }
 }
 
-/// A word as an atom, whose symbol is put into the table where it is new.
-fn atom(alloc: Global, symbols: &mut Symbols, word: &[u8]) -> Result<Formula, AllocError>
-    requires { IsSymbolName word.now }
-    ensures predicates { OnOk result (Interns symbols.old.predicates (proposition word.now) symbols.new.predicates) }
-    ensures functions { symbols.new.functions ≡ symbols.old.functions }
-    ensures atom { IfOk result (λ f. IsAtom symbols.new.predicates word.now (formula_of f)) }
-{
-    let number = symbols.intern_predicate(word, 0)?;
-    Ok(Formula::Atom(number, Items::new(alloc)))
-}
-
-/// The formula of a text, whose symbols are put into the table where they are new.
-fn formula(
-    alloc: Global,
-    symbols: &mut Symbols,
-    text: &FormulaText<'_>,
-) -> Result<Formula, AllocError>
-    requires { HasNames (sentence_of text.now) }
-    ensures predicates { OnOk result (InternsAll symbols.old.predicates (predicates_in (sentence_of text.now)) symbols.new.predicates) }
-    ensures functions { symbols.new.functions ≡ symbols.old.functions }
-    ensures formula { IfOk result (λ f. IsPlain symbols.new.predicates (sentence_of text.now) (formula_of f)) }
-{
-    match text {
-        FormulaText::Name(word) => atom(alloc, symbols, word),
-        FormulaText::Implication(left, right) => {
-            let left = atom(alloc, symbols, left)?;
-            let right = atom(alloc, symbols, right)?;
-            Ok(Formula::Imp(Boxed::new(alloc, left)?, Boxed::new(alloc, right)?))
-        }
-    }
-}
-
-/// The problem with one statement more, unless that would be a second conjecture.
-pub(crate) fn with_statement(
+/// The problem with the formula of a statement put to its place. None where the statement is a second conjecture.
+fn with_formula(
     alloc: Global,
     problem: Problem,
-    text: &StatementText<'_>,
+    name: &[u8],
+    role: Role,
+    formula: Formula,
 ) -> Result<Option<Problem>, AllocError>
-    requires { IsNamed (statement_of text.now) }
     ensures { IfOk result (λ next. MatchOption next
-        (IsSecondConjecture (plain_problem problem) (statement_of text.now))
-        (λ p. Adds (plain_problem problem) (statement_of text.now) (plain_problem p))) }
+        ((role ≡ Role.Conjecture) × IsSome (plain_problem problem).conjecture)
+        (λ p. Puts (plain_problem problem) (label name.now role) (formula_of formula) (plain_problem p))) }
 {
     let Problem {
-        mut symbols,
+        symbols,
         mut statements,
         mut axioms,
         conjecture,
     } = problem;
-    let formula = formula(alloc, &mut symbols, &text.formula)?;
-    let name = Items::from_slice(alloc, text.name)?;
-    statements.push(Statement {
-        name,
-        role: text.role,
-    })?;
-    match text.role {
+    let name = Items::from_slice(alloc, name)?;
+    statements.push(Statement { name, role })?;
+    match role {
         Role::Axiom => {
             axioms.push(formula)?;
             Ok(Some(Problem {
@@ -119,6 +88,34 @@ pub(crate) fn with_statement(
                 conjecture: Some(formula),
             })),
         },
+    }
+}
+
+/// The problem with the statement in front of the text, and what stands behind the statement. None where no
+/// statement stands there, or a second conjecture.
+pub(crate) fn with_statement(
+    alloc: Global,
+    problem: Problem,
+    bytes: &[u8],
+) -> Result<Option<(Problem, &[u8])>, AllocError>
+    ensures { IfOk result (λ next. MatchOption next
+        (EndsReading (tokens bytes.now) (plain_problem problem))
+        (λ p. GoesOn (tokens bytes.now) (plain_problem problem) (tokens p.1.now) (plain_problem p.0))) }
+{
+    let Some(((name, role), body)) = heading_at(bytes) else {
+        return Ok(None);
+    };
+    let mut problem = problem;
+    // The `(` behind `fof` counts 1.
+    let Some(front) = formula(alloc, &mut problem.symbols, body, MAX_NESTING - 1)? else {
+        return Ok(None);
+    };
+    let Some(rest) = ending_at(front.rest) else {
+        return Ok(None);
+    };
+    match with_formula(alloc, problem, name, role, front.formula)? {
+        None => Ok(None),
+        Some(next) => Ok(Some((next, rest))),
     }
 }
 

@@ -7,13 +7,22 @@ ghost use Rattle.fof_parse.specs.Token.{is_blank, begins_with, tokens, single};
 ghost use Rattle.fof_parse.specs.Views.{token_of};
 ghost use Rattle.fof_parse.specs.Runs.{word_len};
 
+/// What stands between two units of a formula.
+#[derive(Clone, Copy, Debug, PartialEq, Eq)]
+pub enum Operator {
+    Implies,
+    And,
+    Or,
+}
+
 #[derive(Clone, Copy, Debug, PartialEq, Eq)]
 pub enum Mark {
     Open,
     Close,
     Comma,
     Stop,
-    Implies,
+    Not,
+    Binary(Operator),
 }
 
 #[derive(Clone, Copy, Debug)]
@@ -72,6 +81,9 @@ fn single(c: u8) -> Token<'static>
         b')' => Token::Marked(Mark::Close),
         b',' => Token::Marked(Mark::Comma),
         b'.' => Token::Marked(Mark::Stop),
+        b'&' => Token::Marked(Mark::Binary(Operator::And)),
+        b'|' => Token::Marked(Mark::Binary(Operator::Or)),
+        b'~' => Token::Marked(Mark::Not),
         _ => Token::Other(c),
     }
 }
@@ -89,7 +101,7 @@ fn token_in_front(bytes: &[u8]) -> Option<(Token<'_>, &[u8])>
     }
     if *first == b'=' {
         if let [b'>', rest @ ..] = after {
-            return Some((Token::Marked(Mark::Implies), rest));
+            return Some((Token::Marked(Mark::Binary(Operator::Implies)), rest));
         }
     }
     Some((single(*first), after))

@@ -1,1 +1,3 @@
 pub mod ReadingLemmas
+pub mod Pairs
+pub mod Told

@@ -1,5 +1,5 @@
-pub mod Refutations
 pub mod Spelled
 pub mod Reports
+pub mod Answered
 pub mod Puts
 pub mod Words

@@ -10,8 +10,10 @@ use Rattle.fol_core.specs.Syntax.{PlainFormula, not}
 use Rattle.fol_core.specs.Symbol.{Symbol}
 use Rattle.gs3_rules.specs.Refutes.{ProofTree}
 use Rattle.gs3_text.specs.ProofText.{ProofText, text_of, says, IsLine}
-use Rattle.fof_parse.specs.Grammar.{Sentence, name, implication}
-use Rattle.fof_parse.specs.Problem.{PlainProblem, IsPlain, ArePlain, IsProblemText, Start}
+use Rattle.fof_parse.specs.declared.token.Operator.{Operator}
+use Rattle.fof_parse.specs.declared.token.Operator.TheVariants.{Implies, And, Or}
+use Rattle.fof_parse.specs.Grammar.{Sentence, name, negation, binary}
+use Rattle.fof_parse.specs.Problem.{PlainProblem, plain_binary, IsPlain, ArePlain, IsProblemText, Start}
 use Rattle.prop_tableau.specs.Search.{IsPropositional, ArePropositional}
 use Rattle.prop_tableau.proofs.Searching.{both_propositional}
 use Rattle.goeland.specs.Run.{head_lines, last_lines}
@@ -48,10 +50,16 @@ head_silent false = refl
 pub printed_text : (functions : List Symbol) (theorem : Bool) (text : List ℕ) (t : ProofTree) → ProofText functions text t → ProofText functions (text_of (head_lines theorem) ++ (text ++ text_of last_lines)) t
 printed_text functions theorem text t p = commented functions (head_lines theorem) last_lines text t (head_whole theorem) (head_silent theorem) (refl, tt) refl p
 
+binary_propositional : (op : Operator) (a b : PlainFormula) → IsPropositional a → IsPropositional b → IsPropositional (plain_binary op a b)
+binary_propositional Implies a b h k = (h, k)
+binary_propositional And a b h k = (h, k)
+binary_propositional Or a b h k = (h, k)
+
 plain_propositional : (table : List Symbol) (s : Sentence) (a : PlainFormula) → IsPlain table s a → IsPropositional a
 plain_propositional table (name w) a (n, at, same) = subst IsPropositional (sym same) refl
-plain_propositional table (implication v w) a (b, c, (n, at, left), (m, at', right), same) =
-    subst IsPropositional (sym same) (subst IsPropositional (sym left) refl, subst IsPropositional (sym right) refl)
+plain_propositional table (negation s) a (b, h, same) = subst IsPropositional (sym same) (plain_propositional table s b h)
+plain_propositional table (binary op s t) a (b, c, h, k, same) =
+    subst IsPropositional (sym same) (binary_propositional op b c (plain_propositional table s b h) (plain_propositional table t c k))
 
 all_propositional : (table : List Symbol) (ss : List Sentence) (fs : List PlainFormula) → ArePlain table ss fs → ArePropositional fs
 all_propositional table [] [] h = tt

@@ -1,16 +1,8 @@
 -- Two words compared one by one.
-use Rattle.std.proofs.Common.{◌≡◌, ℕ, ◌<◌, ◌≤◌, Bool, true, false, List, [], ◌∷◌, length, codes, IsTrue, not, refl, ap, sym, ◌∙◌, arith, get_or}
-use Rattle.std.specs.Prelude.{String, string_bytes}
+use Rattle.std.proofs.Common.{◌≡◌, ℕ, Bool, true, false, List, [], ◌∷◌, codes, IsTrue, not, refl, ap, sym, ◌∙◌}
 use Rattle.std.specs.Str.{bytes_eq}
 use Rattle.std.proofs.lemmas.Slice.Eq.{bytes_eq-Decides}
-use Rattle.goeland.specs.Run.{words_of, prove_words}
-
-pub two_words : {Z : Type 0} (ws : List (String Z)) (a b : String Z) → 2 ≤ length ws → length ws < 3 → a ≡ get_or ws 0 a → b ≡ get_or ws 1 b → words_of ws ≡ string_bytes a ∷ string_bytes b ∷ []
-two_words [] a b least below first second = absurd (omega (arith, least))
-two_words (x ∷ []) a b least below first second = absurd (omega (arith, least))
-two_words (x ∷ y ∷ []) a b least below first second =
-    ap (λ p. string_bytes p ∷ string_bytes y ∷ []) (sym first) ∙ ap (λ q. string_bytes a ∷ string_bytes q ∷ []) (sym second)
-two_words (x ∷ y ∷ z ∷ ws) a b least below first second = absurd (omega (arith, below))
+use Rattle.goeland.specs.Run.{prove_words}
 
 abbrev AreOnly : List (List ℕ) → Bool → Type 0
 AreOnly ws r = (IsTrue r → ws ≡ prove_words) × (ws ≡ prove_words → IsTrue r)

@@ -1,12 +1,14 @@
 -- What a run answers, what it prints, and why.
-use Rattle.std.specs.Prelude.{◌≡◌, ◌≢◌, ◌⊎◌, ℕ, ◌<◌, Bool, true, false, List, [], ◌∷◌, ◌++◌, map, codes, Option, IfSome, String, string_bytes, is_some, length}
+use Rattle.std.specs.Prelude.{◌≡◌, ◌≢◌, ◌⊎◌, ℕ, ◌<◌, ◌≤◌, Bool, true, false, List, [], ◌∷◌, ◌++◌, map, codes, decimal, Option, IfSome, String, string_bytes, is_some, length}
 use Rattle.gl_outside.specs.Outside.{HasRisen, Appends, AppendsFront}
-use Rattle.fof_parse.specs.Problem.{PlainProblem, IsProblemText, IsNoProblem, Start}
+use Rattle.fof_parse.specs.Problem.{PlainProblem, IsNoProblem, Start}
+use Rattle.fof_parse.specs.TheProblem.{IsTheProblem}
 use Rattle.gs3_rules.specs.Refutes.{ProofTree, Refutes}
 use Rattle.gs3_text.specs.ProofText.{text_of, ProofText}
 use Rattle.prop_tableau.specs.Tableau.{Closes, IsOpen}
+use Rattle.prop_tableau.specs.Walk.{WalkAnswer, open_at, conflict, unsearched, IsWalkAnswer}
 use Rattle.goeland.specs.declared.run.Report.{Report}
-use Rattle.goeland.specs.declared.run.Report.TheVariants.{Usage, TooLarge, NotBuilt, ReadFault, Proved}
+use Rattle.goeland.specs.declared.run.Report.TheVariants.{Usage, TooLarge, NotBuilt, ReadFault, GaveUp, Proved}
 use Rattle.goeland.specs.declared.run.Status.{Status}
 use Rattle.goeland.specs.declared.run.Status.TheVariants as status
 
@@ -28,12 +30,23 @@ head_lines theorem = status_line theorem ∷ codes "% depth 1" ∷ codes "% engi
 abbrev pub last_lines : List (List ℕ)
 last_lines = codes "% SZS output end Proof for -" ∷ []
 
+-- the end of the walk over the segments of a tableau that does not close, in words
+abbrev pub reason_words : WalkAnswer → List ℕ
+reason_words (open_at b) = codes "open " ++ decimal b
+reason_words conflict = codes "conflict"
+reason_words unsearched = codes "unsearched"
+
+-- The lines where no tableau up to depth 8 closes. Without quantifiers all of them are the same tableau.
+abbrev pub given_up_lines : WalkAnswer → List (List ℕ)
+given_up_lines answer = codes "% SZS status GaveUp for -" ∷ (codes "% reason depth 8 " ++ reason_words answer) ∷ codes "% engine plain" ∷ []
+
 -- what is printed before the body of a report
 abbrev pub head_of : Report → List ℕ
 head_of Usage = text_of (codes "% usage: goeland prove [OPTIONS] [FILE] or goeland bench N [--workers W]" ∷ [])
 head_of TooLarge = text_of (codes "% refused TooLarge" ∷ [])
 head_of NotBuilt = text_of (codes "% refused NotBuilt" ∷ [])
 head_of ReadFault = text_of (codes "% read fault" ∷ [])
+head_of (GaveUp text) = text.items
 head_of (Proved theorem body) = text_of (head_lines theorem)
 
 abbrev pub body_of : Report → List ℕ
@@ -41,6 +54,7 @@ body_of Usage = []
 body_of TooLarge = []
 body_of NotBuilt = []
 body_of ReadFault = []
+body_of (GaveUp text) = []
 body_of (Proved theorem body) = body.items
 
 -- all that is printed
@@ -52,11 +66,13 @@ status_of Usage = status.Usage
 status_of TooLarge = status.Refused
 status_of NotBuilt = status.Refused
 status_of ReadFault = status.ReadFault
+status_of (GaveUp text) = status.GaveUp
 status_of (Proved theorem body) = status.Proved
 
 -- the number that the process ends with
 abbrev pub exit_of : Status → ℕ
 exit_of status.Proved = 0
+exit_of status.GaveUp = 1
 exit_of status.Usage = 2
 exit_of status.Refused = 3
 exit_of status.ReadFault = 4
@@ -67,17 +83,20 @@ exit_of status.OutOfMemory = 6
 abbrev pub most_bytes : ℕ
 most_bytes = 16777216
 
--- a problem of this text whose tableau does not close
-pub record IsOpenProblem (bytes : List ℕ) : Type 0 where
+-- The text is a problem whose tableau does not close, and what is printed tells the end of the walk over its segments.
+pub record IsGivenUp (bytes : List ℕ) (text : List ℕ) : Type 0 where
   pub problem : PlainProblem
-  pub text : IsProblemText bytes problem
+  pub of_text : IsTheProblem bytes problem
   pub is_open : IsOpen (Start problem)
+  pub answer : WalkAnswer
+  pub of_walk : IsWalkAnswer (Start problem) answer
+  pub is_text : text ≡ text_of (given_up_lines answer)
 
 -- The text is a problem whose tableau closes, and what is printed is a proof text of a tree that refutes its start
 -- list. A problem with a conjecture is a theorem.
 pub record IsProof (bytes : List ℕ) (theorem : Bool) (text : List ℕ) : Type 0 where
   pub problem : PlainProblem
-  pub of_text : IsProblemText bytes problem
+  pub of_text : IsTheProblem bytes problem
   pub status : theorem ≡ is_some problem.conjecture
   pub closes : Closes (Start problem)
   pub tree : ProofTree
@@ -89,15 +108,16 @@ abbrev pub Answers : List ℕ → Report → Type 0
 Answers bytes Usage = ⊥
 Answers bytes ReadFault = ⊥
 Answers bytes TooLarge = most_bytes < length bytes
-Answers bytes NotBuilt = IsNoProblem bytes ⊎ IsOpenProblem bytes
+Answers bytes NotBuilt = IsNoProblem bytes
+Answers bytes (GaveUp text) = IsGivenUp bytes (printed (GaveUp text))
 Answers bytes (Proved theorem body) = IsProof bytes theorem (printed (Proved theorem body))
 
 -- What is reported of a problem, whose text is at hand.
 abbrev pub AnswersProblem : PlainProblem → Report → Type 0
-AnswersProblem problem r = (bytes : List ℕ) → IsProblemText bytes problem → Answers bytes r
+AnswersProblem problem r = (bytes : List ℕ) → IsTheProblem bytes problem → Answers bytes r
 
 abbrev pub AnswersRead : Option (List ℕ) → Report → Type 0
-AnswersRead told r = (bytes : List ℕ) × IfSome told (λ b. bytes ≡ b) × Answers bytes r
+AnswersRead told r = (bytes : List ℕ) × IfSome told (λ b. bytes ≡ b) × (length bytes ≤ most_bytes) × Answers bytes r
 
 -- What is reported of the words, of the bytes of the standard input, where they are told, and of the shelf's faults
 -- before and after.
@@ -106,6 +126,7 @@ Fits words told before after Usage = (words ≢ prove_words) × (after ≡ befor
 Fits words told before after ReadFault = (words ≡ prove_words) × HasRisen before after
 Fits words told before after TooLarge = (words ≡ prove_words) × (after ≡ before) × IfSome told (λ b. most_bytes < length b)
 Fits words told before after NotBuilt = (words ≡ prove_words) × (after ≡ before) × AnswersRead told NotBuilt
+Fits words told before after (GaveUp text) = (words ≡ prove_words) × (after ≡ before) × AnswersRead told (GaveUp text)
 Fits words told before after (Proved theorem body) = (words ≡ prove_words) × (after ≡ before) × AnswersRead told (Proved theorem body)
 
 -- The report is printed whole, or the sink failed after some front of it.
@@ -114,9 +135,9 @@ Prints r old new before after s =
     ((s ≡ status_of r) × Appends old (printed r) new × (after ≡ before))
     ⊎ ((s ≡ status.WriteFault) × AppendsFront old (printed r) new × HasRisen before after)
 
--- A run with these words: its report is as it has to be, and is printed. After want of memory nothing was written, and
--- no fault came.
+-- A run with these words: its report is as it has to be, and is printed. Want of memory comes only with the words of a proof; then
+-- nothing was written, and no fault came.
 abbrev pub Ran : List (List ℕ) → Option (List ℕ) → ℕ → ℕ → Option (List ℕ) → Option (List ℕ) → ℕ → ℕ → Status → Type 0
 Ran words told before after old new faults faults' s =
-    ((s ≡ status.OutOfMemory) × (after ≡ before) × (new ≡ old) × (faults' ≡ faults))
+    ((s ≡ status.OutOfMemory) × (words ≡ prove_words) × (after ≡ before) × (new ≡ old) × (faults' ≡ faults))
     ⊎ ((r : Report) × Fits words told before after r × Prints r old new faults faults' s)

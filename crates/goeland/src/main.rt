@@ -6,6 +6,8 @@ ghost use Rattle.std.specs.Process.{exit_status};
 ghost use Rattle.goeland.specs.Run.{exit_of};
 
 mod run;
+#[cfg(test)]
+mod tests;
 
 use crate::run::{Status, run_alone};
 use gl_outside::{HostShelf, HostSink};
@@ -19,6 +21,7 @@ fn exit_code(status: Status) -> ExitCode
 {
     match status {
         Status::Proved => ExitCode::SUCCESS,
+        Status::GaveUp => ExitCode::from(1),
         Status::Usage => ExitCode::from(2),
         Status::Refused => ExitCode::from(3),
         Status::ReadFault => ExitCode::from(4),

@@ -1,21 +1,23 @@
-//! A run: a problem on the standard input, and its proof on the standard output.
+//! A run: a problem on the standard input, and its proof, or why there is none, on the standard output.
 
-ghost use Rattle.std.specs.Prelude.{◌≡◌, ◌≢◌, ◌↔◌, ℕ, Option, codes, IfOk, OnOk, OnErr, IsTrue, List};
+ghost use Rattle.std.specs.Prelude.{◌≡◌, ◌↔◌, ◌++◌, codes, IfOk, OnOk, OnErr, IsTrue};
 ghost use Rattle.gl_outside.specs.Outside.{HasRisen, Appends, AppendsFront};
 ghost use Rattle.fof_parse.specs.ProblemView.{plain_problem};
 ghost use Rattle.fof_parse.specs.Problem.{Start};
 ghost use Rattle.gs3_rules.specs.Apply.{rules_of};
 ghost use Rattle.gs3_rules.specs.Refutes.{RefutedBy};
+ghost use Rattle.gs3_text.specs.ProofText.{text_of};
 ghost use Rattle.prop_tableau.specs.Tableau.{Closes};
+ghost use Rattle.prop_tableau.specs.Answers.{walk_answer_of};
 ghost use Rattle.prop_tableau.specs.Search.{ArePropositional};
-ghost use Rattle.goeland.specs.Run.{prove_words, words_of, head_of, body_of, printed, status_of, Answers, AnswersProblem, Fits, Prints, Ran};
-ghost use Rattle.goeland.specs.declared.run.Status.TheVariants as status;
+ghost use Rattle.goeland.specs.Run.{prove_words, words_of, reason_words, given_up_lines, head_of, printed, status_of, Answers, AnswersProblem, Fits, Prints, Ran};
 
 use fof_parse::{MAX_BYTES, Problem, ReadError, read_problem, start_list};
 use gl_outside::{FetchError, Shelf, Sink, SinkFailed};
 use gs3_rules::Steps;
 use gs3_text::{tree_of, write_tree};
-use prop_tableau::find_proof;
+use itoa::Buffer;
+use prop_tableau::{Found, OpenAnswer, find_proof};
 use std::alloc::{AllocError, Global};
 
 /// How a run ended.
@@ -23,6 +25,8 @@ use std::alloc::{AllocError, Global};
 pub enum Status {
     /// A proof was printed.
     Proved,
+    /// The problem's tableau does not close.
+    GaveUp,
     /// The words are none that the command takes.
     Usage,
     /// The problem is too large, or has what is not built yet.
@@ -41,6 +45,8 @@ pub(crate) enum Report {
     TooLarge,
     NotBuilt,
     ReadFault,
+    /// The lines on a tableau that does not close.
+    GaveUp(Vec<u8>),
     /// Whether the problem has a conjecture, and the lines from the proof on.
     Proved(bool, Vec<u8>),
 }
@@ -70,15 +76,40 @@ fn proved(alloc: Global, problem: &Problem, steps: Steps) -> Result<Report, Allo
     Ok(Report::Proved(problem.conjecture.is_some(), text))
 }
 
+/// Appends the words that tell the end of a walk.
+fn push_reason(text: &mut Vec<u8>, answer: OpenAnswer) -> Result<(), AllocError>
+    ensures { OnOk result (text.new.items ≡ text.old.items ++ reason_words (walk_answer_of answer)) }
+{
+    match answer {
+        OpenAnswer::Branch(name) => {
+            text.extend_from_slice(b"open ")?;
+            let mut buffer = Buffer::new();
+            text.extend_from_slice(buffer.format(name).as_bytes())
+        }
+        OpenAnswer::Unsearched => text.extend_from_slice(b"unsearched"),
+    }
+}
+
+/// The lines on a tableau that does not close.
+fn given_up(alloc: Global, answer: OpenAnswer) -> Result<Vec<u8>, AllocError>
+    ensures { IfOk result (λ text. text.items ≡ text_of (given_up_lines (walk_answer_of answer))) }
+{
+    let mut text = Vec::from_slice(alloc, b"% SZS status GaveUp for -\n% reason depth 8 ")?;
+    push_reason(&mut text, answer)?;
+    text.extend_from_slice(b"\n% engine plain\n")?;
+    Ok(text)
+}
+
 /// The report of a problem.
 fn search(alloc: Global, problem: &Problem) -> Result<Report, AllocError>
     requires { ArePropositional (Start (plain_problem problem.now)) }
     ensures { IfOk result (AnswersProblem (plain_problem problem.now)) }
 {
     let start = start_list(alloc, problem)?;
-    match find_proof(alloc, &start)? {
-        None => Ok(Report::NotBuilt),
-        Some(steps) => proved(alloc, problem, steps),
+    let found = find_proof(alloc, &start)?;
+    match found {
+        Found::Proof(steps) => proved(alloc, problem, steps),
+        Found::Open(answer) => Ok(Report::GaveUp(given_up(alloc, answer)?)),
     }
 }
 
@@ -97,7 +128,7 @@ fn answer(alloc: Global, bytes: &[u8]) -> Result<Report, AllocError>
 /// The report of a run.
 fn decide<S: Shelf>(alloc: Global, words: &[String], shelf: &mut S) -> Result<Report, AllocError>
     ensures fits { IfOk result (Fits (words_of words.now) (S.holds shelf.old (codes "-")) (S.faults shelf.old) (S.faults shelf.new)) }
-    ensures err { OnErr result (S.faults shelf.new ≡ S.faults shelf.old) }
+    ensures err { OnErr result ((words_of words.now ≡ prove_words) × (S.faults shelf.new ≡ S.faults shelf.old)) }
 {
     if !is_prove(words) {
         return Ok(Report::Usage);
@@ -121,6 +152,7 @@ fn head(report: &Report) -> &[u8]
         Report::TooLarge => b"% refused TooLarge\n",
         Report::NotBuilt => b"% refused NotBuilt\n",
         Report::ReadFault => b"% read fault\n",
+        Report::GaveUp(text) => text.as_slice(),
         Report::Proved(true, _) => {
             b"% SZS status Theorem for -\n% depth 1\n% engine plain\n% SZS output start Proof for -\n"
         }
@@ -137,6 +169,7 @@ fn end_of(report: &Report) -> Status
         Report::Usage => Status::Usage,
         Report::TooLarge | Report::NotBuilt => Status::Refused,
         Report::ReadFault => Status::ReadFault,
+        Report::GaveUp(_) => Status::GaveUp,
         Report::Proved(..) => Status::Proved,
     }
 }
@@ -165,6 +198,8 @@ fn tell<K: Sink>(out: &mut K, report: &Report) -> Status
 }
 
 /// Proves the problem on the shelf under the name `-`, where the words are `prove` and `-`.
+///
+/// A problem whose tableau does not close is given up, with the open leaf that the walk over its segments finds.
 ///
 /// The problem is read once, and the report written by two puts at most. A read fault is the answer exactly where the
 /// shelf's count of faults rose. After want of memory nothing was written.

@@ -11,8 +11,8 @@ use Rattle.gs3_kernel.specs.Shared.{left_of, open_lists}
 use Rattle.gs3_rules.specs.Apply.{rule_of, rules_of}
 use Rattle.gs3_rules.specs.declared.step.Step.{Step as CodeStep}
 use Rattle.gs3_kernel.specs.Check.{Checks}
-use Rattle.gs3_kernel.specs.declared.check.CheckError.{CheckError}
-use Rattle.gs3_kernel.specs.declared.check.CheckError.TheVariants.{Wrong, OutOfMemory}
+use Rattle.gs3_kernel.specs.declared.checking.CheckError.{CheckError}
+use Rattle.gs3_kernel.specs.declared.checking.CheckError.TheVariants.{Wrong, OutOfMemory}
 use Rattle.gs3_kernel.specs.declared.open.Open.{Open}
 
 -- What the steps do from the beginning, they do from here on, this many steps later.

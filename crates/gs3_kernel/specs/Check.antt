@@ -4,8 +4,8 @@ use Rattle.fol_core.specs.Syntax.{PlainFormula}
 use Rattle.gs3_rules.specs.Rules.{Rule}
 use Rattle.gs3_rules.specs.Refutes.{ProofTree, preorder, RefutedBy, HasShape, FailsAt}
 use Rattle.gs3_rules.specs.InTurn.{StopAt}
-use Rattle.gs3_kernel.specs.declared.check.CheckError.{CheckError}
-use Rattle.gs3_kernel.specs.declared.check.CheckError.TheVariants.{Wrong}
+use Rattle.gs3_kernel.specs.declared.checking.CheckError.{CheckError}
+use Rattle.gs3_kernel.specs.declared.checking.CheckError.TheVariants.{Wrong}
 
 -- Ok comes only where the steps are those of a tree that refutes the list, and Wrong only where there is no such tree.
 -- Then it has the place where the steps stop: of a whole proof, the place of the first step whose condition fails.

@@ -1,10 +1,10 @@
 //! Checking a GS3 proof.
 #![tactic(auto)]
 
-mod check;
+mod checking;
 mod open;
 
-pub use check::{CheckError, check_steps};
+pub use checking::{CheckError, check, check_steps};
 
 #[cfg(test)]
 mod tests;

@@ -79,7 +79,7 @@ step_once list (beta i) a b x y =
 step_once list (delta i n) a b x y = x.3 ∙ ap (λ p. (p ∷ []) ∷ []) (some_once _ _ _ x.1 y.1) ∙ sym y.3
 step_once list (gamma i t) a b x y = x.3 ∙ ap (λ p. (p ∷ []) ∷ []) (some_once _ _ _ x.1 y.1) ∙ sym y.3
 
-step_premises : (list : List PlainFormula) (rule : Rule) (a : List (List PlainFormula)) → Step list rule a → length a ≡ premises_of rule
+pub step_premises : (list : List PlainFormula) (rule : Rule) (a : List (List PlainFormula)) → Step list rule a → length a ≡ premises_of rule
 step_premises list (close i j) a x = ap length x.1
 step_premises list (false_at i) a x = ap length x.1
 step_premises list (not_true i) a x = ap length x.1

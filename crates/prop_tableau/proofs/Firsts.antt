@@ -40,7 +40,7 @@ first_pop es a b (Some i) true yes_ no_ h =
       by_case false e =
           (⊎_elim (λ p. p.1) (λ q. absurd (false≢true (sym e ∙ (Decides-eqb i (length es)).1 q.0))) (before_end es a b i h.0), λ j lt at. h.1 j lt (at_front es (a ∷ []) j b at))
 
-positive_is : (a : PlainFormula) (q : ℕ) → is_positive (literal_of a) q ≡ true → a ≡ atom q no_terms
+pub positive_is : (a : PlainFormula) (q : ℕ) → is_positive (literal_of a) q ≡ true → a ≡ atom q no_terms
 positive_is (atom p no_terms) q h = ap (λ n. atom n no_terms) ((Decides-eqb p q).0 h)
 positive_is (atom p (terms u us)) q h = absurd (false≢true h)
 positive_is verum q h = absurd (false≢true h)
@@ -63,7 +63,7 @@ positive_is (not (iff a b)) q h = absurd (false≢true h)
 positive_is (not (all a)) q h = absurd (false≢true h)
 positive_is (not (ex a)) q h = absurd (false≢true h)
 
-negative_is : (a : PlainFormula) (q : ℕ) → is_negative (literal_of a) q ≡ true → a ≡ not (atom q no_terms)
+pub negative_is : (a : PlainFormula) (q : ℕ) → is_negative (literal_of a) q ≡ true → a ≡ not (atom q no_terms)
 negative_is (atom p no_terms) q h = absurd (false≢true h)
 negative_is (atom p (terms u us)) q h = absurd (false≢true h)
 negative_is verum q h = absurd (false≢true h)
@@ -86,10 +86,10 @@ negative_is (not (iff a b)) q h = absurd (false≢true h)
 negative_is (not (all a)) q h = absurd (false≢true h)
 negative_is (not (ex a)) q h = absurd (false≢true h)
 
-is_positive_of : (a : PlainFormula) (q : ℕ) → a ≡ atom q no_terms → is_positive (literal_of a) q ≡ true
+pub is_positive_of : (a : PlainFormula) (q : ℕ) → a ≡ atom q no_terms → is_positive (literal_of a) q ≡ true
 is_positive_of a q e = ap (λ b. is_positive (literal_of b) q) e ∙ (Decides-eqb q q).1 refl
 
-is_negative_of : (a : PlainFormula) (q : ℕ) → a ≡ not (atom q no_terms) → is_negative (literal_of a) q ≡ true
+pub is_negative_of : (a : PlainFormula) (q : ℕ) → a ≡ not (atom q no_terms) → is_negative (literal_of a) q ≡ true
 is_negative_of a q e = ap (λ b. is_negative (literal_of b) q) e ∙ (Decides-eqb q q).1 refl
 
 pub indexed_push : (es : List PlainFormula) (a : PlainFormula) (ps ns ps' ns' : Places) (place : ℕ) → place ≡ length es → IsIndexed es ps ns

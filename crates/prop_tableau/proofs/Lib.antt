@@ -3,5 +3,8 @@ pub mod States
 pub mod Firsts
 pub mod Branches
 pub mod Scans
+pub mod Walking
 pub mod Searching
+pub mod Names
+pub mod Sights
 pub mod Progressing

@@ -1,5 +1,5 @@
 -- Each step of a search, and what it makes of what is found behind it.
-use Rattle.std.proofs.Common.{◌≡◌, ◌⊎◌, ℕ, zero, suc, ◌+◌, ◌<◌, ◌≤◌, Bool, true, false, List, [], ◌∷◌, ◌++◌, length, Option, Some, None, refl, sym, ap, subst, ◌∙◌, inl, inr, ⊎_elim, append_assoc, append-nil, arith}
+use Rattle.std.proofs.Common.{◌≡◌, ◌⊎◌, ℕ, zero, suc, ◌+◌, ◌-◌, ◌*◌, ◌<◌, ◌≤◌, List, [], ◌∷◌, ◌++◌, length, Option, Some, None, refl, sym, ap, subst, ◌∙◌, inl, inr, ⊎_elim, append_assoc, append-nil, arith, length-append}
 use Rattle.std.specs.Prelude.{slice_get, option_and_then}
 use Rattle.std.proofs.lemmas.Bool.{cases_lt}
 use Rattle.std.proofs.Math.Nat.{eq-or-lt_of_le}
@@ -10,8 +10,14 @@ use Rattle.gs3_rules.specs.Refutes.{by, no_premises, premise, RefutedBy, preorde
 use Rattle.prop_tableau.specs.Tableau.{Done, all_of, left_of, right_of, alpha_at, beta_at, all_or_none, left_or_none, right_or_none, entries, IsPending, IsLeast, HasRoom, MaySplit, IsNext, IsClosed, most_entries, most_splits}
 use Rattle.prop_tableau.specs.State.{IsState}
 use Rattle.prop_tableau.specs.Scan.{IsNoneFrom, IsFirstFrom, AreItemless}
-use Rattle.prop_tableau.specs.Search.{IsPropositional, ArePropositional, OpensHere, HasOutcome, Passes}
-use Rattle.prop_tableau.proofs.Paths.{closed_below, alpha_closes, beta_closes, step_opens, leaf_opens, no_step, no_room, one_least}
+use Rattle.prop_tableau.specs.Walk.{Sight, item, leaf, takes, split, Segment, other, segments, first_open, WalkAnswer}
+use Rattle.prop_tableau.specs.Answers.{walk_answer_of, IsAnswerAt}
+use Rattle.prop_tableau.specs.declared.answers.OpenAnswer.{OpenAnswer}
+use Rattle.prop_tableau.specs.declared.answers.Verdict.{Verdict}
+use Rattle.prop_tableau.specs.declared.answers.Verdict.TheVariants.{Closed, Open}
+use Rattle.prop_tableau.specs.Search.{IsPropositional, ArePropositional, SeenHere, WalksHere, ClosesNow, IsOpenHere, FindsNone, FindsOpen, IsOpenWalk, HasOutcome, Passes}
+use Rattle.prop_tableau.proofs.Walking.{first_open_behind, open_before, open_behind}
+use Rattle.prop_tableau.proofs.Paths.{closed_below, alpha_closes, beta_closes, no_step, no_room, one_least}
 use Rattle.prop_tableau.proofs.States.{after_alpha, after_left, after_right, all_alphas, alpha_is_least, no_alpha_pending, beta_is_least, no_beta_pending}
 
 -- proof trees from those of the premises
@@ -134,7 +140,14 @@ closing_is es (rules.delta i n) h = absurd (not_empty (h.0 ∷ []) [] h.3)
 closing_is es (rules.gamma i t) h = absurd (not_empty (h.0 ∷ []) [] h.3)
 
 pub passes_refl : (es : List PlainFormula) (a b n : ℕ) (old : List Rule) → Passes es a b n old es a b n old
-passes_refl es a b n old = record { rules = []; written = sym (append-nil old); refutes = λ later h. h; closes = λ h. h; opens = λ h. h }
+passes_refl es a b n old = record {
+  rules = [];
+  written = sym (append-nil old);
+  refutes = λ later h. h;
+  closes = λ h. h;
+  propositional = λ h. h;
+  sees = λ sight h. (sight, h, λ name. refl);
+}
 
 pub passes_trans : (es fs gs : List PlainFormula) (a b n a' b' n' a'' b'' n'' : ℕ) (old mid new : List Rule) → Passes es a b n old fs a' b' n' mid
     → Passes fs a' b' n' mid gs a'' b'' n'' new → Passes es a b n old gs a'' b'' n'' new
@@ -143,19 +156,58 @@ passes_trans es fs gs a b n a' b' n' a'' b'' n'' old mid new p q = record {
   written = q.written ∙ ap (λ xs. xs ++ q.rules) p.written ∙ append_assoc old p.rules q.rules;
   refutes = λ later h. subst (RefutedBy es) (sym (append_assoc p.rules q.rules later)) (p.refutes (q.rules ++ later) (q.refutes later h));
   closes = λ h. p.closes (q.closes h);
-  opens = λ h. p.opens (q.opens h);
+  propositional = λ h. q.propositional (p.propositional h);
+  sees = λ sight h. let k = q.sees sight h in let m = p.sees k.0 k.1 in (m.0, m.1, λ name. m.2 name ∙ k.2 name);
 }
 
-pub outcome_passes : (es fs : List PlainFormula) (a b n a' b' n' : ℕ) (old mid new : List Rule) (closed : Bool) → Passes es a b n old fs a' b' n' mid
-    → HasOutcome fs a' b' n' mid new closed → HasOutcome es a b n old new closed
-outcome_passes es fs a b n a' b' n' old mid new true p h =
-    (p.rules ++ h.0, h.1 ∙ ap (λ xs. xs ++ h.0) p.written ∙ append_assoc old p.rules h.0, p.refutes h.0 h.2, p.closes h.3)
-outcome_passes es fs a b n a' b' n' old mid new false p h = p.opens h
+-- what was written before goes in front
+behind_rules : (old mid new front rules : List Rule) → mid ≡ old ++ front → new ≡ mid ++ rules → new ≡ old ++ (front ++ rules)
+behind_rules old mid new front rules e f = f ∙ ap (λ xs. xs ++ rules) e ∙ append_assoc old front rules
+
+pub walks_pass : (es fs : List PlainFormula) (a b n a' b' n' : ℕ) (old mid : List Rule) (walk : ℕ → List Segment) → Passes es a b n old fs a' b' n' mid → WalksHere fs a' b' n' walk → WalksHere es a b n walk
+walks_pass es fs a b n a' b' n' old mid walk p h prop =
+    let k = h (p.propositional prop) in let m = p.sees k.0 k.1 in (m.0, m.1, λ name. m.2 name ∙ k.2 name)
+
+pub closes_pass : (es fs : List PlainFormula) (a b n a' b' n' : ℕ) (old mid new : List Rule) → Passes es a b n old fs a' b' n' mid → ClosesNow fs a' b' n' mid new → ClosesNow es a b n old new
+closes_pass es fs a b n a' b' n' old mid new p h =
+    (p.rules ++ h.0, behind_rules old mid new p.rules h.0 p.written h.1, p.refutes h.0 h.2, p.closes h.3, walks_pass es fs a b n a' b' n' old mid _ p h.4)
+
+pub outcome_passes : (es fs : List PlainFormula) (a b n a' b' n' name limit rest : ℕ) (old mid new : List Rule) (verdict : Verdict) → Passes es a b n old fs a' b' n' mid
+    → HasOutcome fs a' b' n' name limit rest mid new verdict → HasOutcome es a b n name limit rest old new verdict
+outcome_passes es fs a b n a' b' n' name limit rest old mid new Closed p h = (
+  p.rules ++ h.0,
+  behind_rules old mid new p.rules h.0 p.written h.1,
+  p.refutes h.0 h.2,
+  p.closes h.3,
+  λ prop. let k = h.4 (p.propositional prop) in let m = p.sees k.0 k.1 in (m.0, m.1, ap first_open (m.2 name) ∙ k.2, k.3 ∙ ap (λ xs. limit - length xs) (sym (m.2 name))),
+)
+outcome_passes es fs a b n a' b' n' name limit rest old mid new (Open answer) p h = λ prop.
+    let k = h (p.propositional prop) in
+    let m = p.sees k.0 k.1 in (m.0, m.1, subst (λ xs. IsOpenWalk limit xs (walk_answer_of answer)) (sym (m.2 name)) k.2)
+
+-- the outcome of a segment that is closed, and of one that is an open leaf
+pub outcome_closes : (es : List PlainFormula) (a b n name limit rest : ℕ) (old new : List Rule) → rest ≡ limit - 1 → ClosesNow es a b n old new → HasOutcome es a b n name limit rest old new Closed
+outcome_closes es a b n name limit rest old new e h = (
+  h.0,
+  h.1,
+  h.2,
+  h.3,
+  λ prop. let k = h.4 prop in (k.0, k.1, ap first_open (k.2 name), e ∙ ap (λ xs. limit - length xs) (sym (k.2 name))),
+)
+
+pub finds_here : (es : List PlainFormula) (a b n name limit : ℕ) (answer : OpenAnswer) → IsAnswerAt limit name answer → IsOpenHere es a b n → FindsOpen es a b n name limit (walk_answer_of answer)
+finds_here es a b n name limit answer is h = λ prop.
+    let k = h prop in (k.0, k.1, subst (λ xs. IsOpenWalk limit xs (walk_answer_of answer)) (sym (k.2 name)) ((name, refl), is))
 
 module _ (es : List PlainFormula) (a b n : ℕ) where
-  pub outcome_closed : (old : List Rule) (r : Rule) → rules.Step es r [] → HasOutcome es a b n old (old ++ r ∷ []) true
-  outcome_closed old r step =
-      (r ∷ [], refl, refuted_closing es r step, λ start before state. closed_below start before (subst IsClosed (sym state.seen) (closing_is es r step)))
+  pub closes_by : (old : List Rule) (r : Rule) → rules.Step es r [] → ClosesNow es a b n old (old ++ r ∷ [])
+  closes_by old r step =
+      (r ∷ [], refl, refuted_closing es r step, λ start before state. closed_below start before (is_closed start before state), λ prop. (item, is_closed, λ name. refl)) where
+        is_closed : (start : List PlainFormula) (before : List Done) → IsState start before es a b n → IsClosed (entries start before)
+        is_closed start before state = subst IsClosed (sym state.seen) (closing_is es r step)
+
+  pub sees_item : IsClosed es → SeenHere es a b n item
+  sees_item closed start before state = subst IsClosed (sym state.seen) closed
 
   module _ (i : ℕ) (ps : List PlainFormula) (first : IsFirstFrom (alpha_at es) a i ps) where
     least : (start : List PlainFormula) (before : List Done) → IsState start before es a b n → IsLeast (IsPending (alpha_at (entries start before)) before) i
@@ -176,17 +228,24 @@ module _ (es : List PlainFormula) (a b n : ℕ) where
       refutes = λ later h. refuted_alpha es ps i later first.1 h;
       closes = λ h start before state.
           alpha_closes start before i (next start before state) (h start (before ++ all_of i ∷ []) (after_alpha start before es a b n state i ps first.0 inside first.1 first.2));
-      opens = λ h prop start before state.
-          step_opens start before (all_of i) (next start before state)
-          (h (alpha_grows es ps i first.1 prop) start (before ++ all_of i ∷ []) (after_alpha start before es a b n state i ps first.0 inside first.1 first.2));
+      propositional = alpha_grows es ps i first.1;
+      sees = λ sight h. (
+        takes i sight,
+        λ start before state. (next start before state, h start (before ++ all_of i ∷ []) (after_alpha start before es a b n state i ps first.0 inside first.1 first.2)),
+        λ name. refl,
+      );
     } where
       next : (start : List PlainFormula) (before : List Done) → IsState start before es a b n → IsNext start before (all_of i)
       next start before state = (least start before state, subst (λ fs. HasRoom fs (all_of i)) (sym state.seen) (room_of room))
 
-    pub opens_full : AreItemless es 0 → most_entries < length es + length ps → OpensHere es a b n
-    opens_full items full prop start before state =
-        leaf_opens start before (no_room start before i (least start before state) (λ room. no_room_of full (subst (λ fs. HasRoom fs (all_of i)) state.seen room)))
-        (λ closed. not_closed es prop items (subst IsClosed state.seen closed))
+    pub sees_full : (IsClosed es → ⊥) → most_entries < length es + length ps → SeenHere es a b n leaf
+    sees_full open_ full start before state = (
+      no_room start before i (least start before state) (λ room. no_room_of full (subst (λ fs. HasRoom fs (all_of i)) state.seen room)),
+      λ closed. open_ (subst IsClosed state.seen closed),
+    )
+
+    pub opens_full : AreItemless es 0 → most_entries < length es + length ps → IsOpenHere es a b n
+    opens_full items full prop = (leaf, sees_full (not_closed es prop items) full, λ name. refl)
 
   module _ (none : IsNoneFrom (alpha_at es) a) where
     pub passes_skip : (old : List Rule) → Passes es a b n old es (length es) b n old
@@ -195,36 +254,47 @@ module _ (es : List PlainFormula) (a b n : ℕ) where
       written = sym (append-nil old);
       refutes = λ later h. h;
       closes = λ h start before state. h start before (all_alphas start before es a b n state none);
-      opens = λ h prop start before state. h prop start before (all_alphas start before es a b n state none);
+      propositional = λ h. h;
+      sees = λ sight h. (sight, λ start before state. h start before (all_alphas start before es a b n state none), λ name. refl);
     }
 
     no_alphas : (start : List PlainFormula) (before : List Done) → IsState start before es a b n → (j : ℕ) → IsPending (alpha_at (entries start before)) before j → ⊥
     no_alphas start before state =
         subst (λ fs. (j : ℕ) → IsPending (alpha_at fs) before j → ⊥) (sym state.seen) (no_alpha_pending start before es a b n state none)
 
-    leaf : AreItemless es 0 → ((start : List PlainFormula) (before : List Done) → IsState start before es a b n → (j : ℕ) → MaySplit es before j → ⊥) → OpensHere es a b n
-    leaf items no_split prop start before state =
-        leaf_opens start before (no_step start before (no_alphas start before state) (λ j split. no_split start before state j (subst (λ fs. MaySplit fs before j) state.seen split)))
-        (λ closed. not_closed es prop items (subst IsClosed state.seen closed))
+    sees_leaf : (IsClosed es → ⊥) → ((start : List PlainFormula) (before : List Done) → IsState start before es a b n → (j : ℕ) → MaySplit es before j → ⊥) → SeenHere es a b n leaf
+    sees_leaf open_ no_split start before state = (
+      no_step start before (no_alphas start before state) (λ j split. no_split start before state j (subst (λ fs. MaySplit fs before j) state.seen split)),
+      λ closed. open_ (subst IsClosed state.seen closed),
+    )
 
-    pub opens_at_limit : AreItemless es 0 → most_splits ≤ n → OpensHere es a b n
-    opens_at_limit items limit = leaf items (λ start before state j split. omega (arith, split.few, state.counted))
+    pub sees_limit : (IsClosed es → ⊥) → most_splits ≤ n → SeenHere es a b n leaf
+    sees_limit open_ limit = sees_leaf open_ (λ start before state j split. omega (arith, split.few, state.counted))
 
-    pub opens_without : AreItemless es 0 → IsNoneFrom (beta_at es) b → OpensHere es a b n
-    opens_without items no_beta = leaf items (λ start before state j split. no_beta_pending start before es a b n state no_beta j split.least.0)
+    pub sees_without : (IsClosed es → ⊥) → IsNoneFrom (beta_at es) b → SeenHere es a b n leaf
+    sees_without open_ no_beta = sees_leaf open_ (λ start before state j split. no_beta_pending start before es a b n state no_beta j split.least.0)
+
+    pub opens_at_limit : AreItemless es 0 → most_splits ≤ n → IsOpenHere es a b n
+    opens_at_limit items limit prop = (leaf, sees_limit (not_closed es prop items) limit, λ name. refl)
+
+    pub opens_without : AreItemless es 0 → IsNoneFrom (beta_at es) b → IsOpenHere es a b n
+    opens_without items no_beta prop = (leaf, sees_without (not_closed es prop items) no_beta, λ name. refl)
 
     module _ (i : ℕ) (ls rs : List PlainFormula) (first : IsFirstFrom (beta_at es) b i (ls, rs)) where
       beta_least : (start : List PlainFormula) (before : List Done) → IsState start before es a b n → IsLeast (IsPending (beta_at es) before) i
       beta_least start before state = beta_is_least start before es a b n state i (ls, rs) first.0 first.1 first.2
 
-      pub opens_crowded : AreItemless es 0 → (most_entries < length es + length ls) ⊎ (most_entries < length es + length rs) → OpensHere es a b n
-      opens_crowded items full =
-          leaf items (λ start before state j split.
+      pub sees_crowded : (IsClosed es → ⊥) → (most_entries < length es + length ls) ⊎ (most_entries < length es + length rs) → SeenHere es a b n leaf
+      sees_crowded open_ full =
+          sees_leaf open_ (λ start before state j split.
           let e = one_least (IsPending (beta_at es) before) j i split.least (beta_least start before state) in
           let here = ap (beta_at es) e ∙ first.1 in
           let l = subst (λ o. length es + length (left_or_none o) ≤ most_entries) here split.left_room in
           let r = subst (λ o. length es + length (right_or_none o) ≤ most_entries) here split.right_room in
           ⊎_elim (λ f. omega (arith, l)) (λ f. omega (arith, r)) full)
+
+      pub opens_crowded : AreItemless es 0 → (most_entries < length es + length ls) ⊎ (most_entries < length es + length rs) → IsOpenHere es a b n
+      opens_crowded items full prop = (leaf, sees_crowded (not_closed es prop items) full, λ name. refl)
 
       module _ (inside : i < length es) (few : n < most_splits) (left_fits : length es + length ls ≤ most_entries) (right_fits : length es + length rs ≤ most_entries) where
         may_split : (start : List PlainFormula) (before : List Done) → IsState start before es a b n → MaySplit (entries start before) before i
@@ -242,20 +312,59 @@ module _ (es : List PlainFormula) (a b n : ℕ) where
         on_right : (start : List PlainFormula) (before : List Done) → IsState start before es a b n → IsState start (before ++ right_of i ∷ []) (es ++ rs) a (i + 1) (n + 1)
         on_right start before state = after_right start before es a b n state i ls rs first.0 inside first.1 first.2
 
-        pub opens_left : OpensHere (es ++ ls) a (i + 1) (n + 1) → OpensHere es a b n
-        opens_left h prop start before state =
-            step_opens start before (left_of i) (may_split start before state) (h (beta_grows es ls rs i first.1 prop).0 start (before ++ left_of i ∷ []) (on_left start before state))
+        pub sees_split : (IsClosed es → ⊥) → (left right : Sight) → SeenHere (es ++ ls) a (i + 1) (n + 1) left → SeenHere (es ++ rs) a (i + 1) (n + 1) right → SeenHere es a b n (split i left right)
+        sees_split open_ left right h k start before state = (
+          λ closed. open_ (subst IsClosed state.seen closed),
+          may_split start before state,
+          h start (before ++ left_of i ∷ []) (on_left start before state),
+          k start (before ++ right_of i ∷ []) (on_right start before state),
+        )
 
-        pub opens_right : OpensHere (es ++ rs) a (i + 1) (n + 1) → OpensHere es a b n
-        opens_right h prop start before state =
-            step_opens start before (right_of i) (may_split start before state) (h (beta_grows es ls rs i first.1 prop).1 start (before ++ right_of i ∷ []) (on_right start before state))
+        pub opens_left : (name limit : ℕ) (answer : WalkAnswer) → AreItemless es 0 → (ArePropositional (es ++ rs) → (right : Sight) × SeenHere (es ++ rs) a (i + 1) (n + 1) right)
+            → FindsOpen (es ++ ls) a (i + 1) (n + 1) (2 * name) (limit - 1) answer → FindsOpen es a b n name limit answer
+        opens_left name limit answer items other_side h prop =
+            let grown = beta_grows es ls rs i first.1 prop in
+            let left = h grown.0 in
+            let right = other_side grown.1 in (
+              split i left.0 right.0,
+              sees_split (not_closed es prop items) left.0 right.0 left.1 right.1,
+              open_behind limit (other name ∷ []) _ answer refl (open_before (limit - 1) (segments (2 * name) left.0) (segments (2 * name + 1) right.0) answer left.2),
+            )
 
-        pub outcome_split : (old mid new : List Rule) → HasOutcome (es ++ ls) a (i + 1) (n + 1) (old ++ rules.beta i ∷ []) mid true → HasOutcome (es ++ rs) a (i + 1) (n + 1) mid new true
-            → HasOutcome es a b n old new true
-        outcome_split old mid new h k = (
+        pub opens_right : (name limit rest : ℕ) (answer : WalkAnswer) → AreItemless es 0 → FindsNone (es ++ ls) a (i + 1) (n + 1) (2 * name) (limit - 1) rest
+            → FindsOpen (es ++ rs) a (i + 1) (n + 1) (2 * name + 1) rest answer → FindsOpen es a b n name limit answer
+        opens_right name limit rest answer items h k prop =
+            let grown = beta_grows es ls rs i first.1 prop in
+            let left = h grown.0 in
+            let right = k grown.1 in (
+              split i left.0 right.0,
+              sees_split (not_closed es prop items) left.0 right.0 left.1 right.1,
+              open_behind limit (other name ∷ []) _ answer refl
+                  (open_behind (limit - 1) (segments (2 * name) left.0) (segments (2 * name + 1) right.0) answer left.2
+                  (subst (λ r. IsOpenWalk r (segments (2 * name + 1) right.0) answer) left.3 right.2)),
+            )
+
+        pub finds_none : (name limit rest rest' : ℕ) → AreItemless es 0 → FindsNone (es ++ ls) a (i + 1) (n + 1) (2 * name) (limit - 1) rest
+            → FindsNone (es ++ rs) a (i + 1) (n + 1) (2 * name + 1) rest rest' → FindsNone es a b n name limit rest'
+        finds_none name limit rest rest' items h k prop =
+            let grown = beta_grows es ls rs i first.1 prop in
+            let left = h grown.0 in
+            let right = k grown.1 in
+            let on_both = length-append (segments (2 * name) left.0) (segments (2 * name + 1) right.0) in (
+              split i left.0 right.0,
+              sees_split (not_closed es prop items) left.0 right.0 left.1 right.1,
+              first_open_behind (segments (2 * name) left.0) (segments (2 * name + 1) right.0) left.2 ∙ right.2,
+              omega (arith, on_both, left.3, right.3),
+            )
+
+        pub outcome_split : (name limit rest rest' : ℕ) (old mid new : List Rule) → AreItemless es 0
+            → HasOutcome (es ++ ls) a (i + 1) (n + 1) (2 * name) (limit - 1) rest (old ++ rules.beta i ∷ []) mid Closed
+            → HasOutcome (es ++ rs) a (i + 1) (n + 1) (2 * name + 1) rest rest' mid new Closed → HasOutcome es a b n name limit rest' old new Closed
+        outcome_split name limit rest rest' old mid new items h k = (
           rules.beta i ∷ h.0 ++ k.0,
           k.1 ∙ ap (λ xs. xs ++ k.0) (h.1 ∙ append_assoc old (rules.beta i ∷ []) h.0) ∙ append_assoc old (rules.beta i ∷ h.0) k.0,
           refuted_beta es ls rs i h.0 k.0 first.1 h.2 k.2,
           λ start before state. beta_closes start before i (may_split start before state) (h.3 start (before ++ left_of i ∷ []) (on_left start before state))
               (k.3 start (before ++ right_of i ∷ []) (on_right start before state)),
+          finds_none name limit rest rest' items h.4 k.4,
         )

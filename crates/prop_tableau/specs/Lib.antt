@@ -1,4 +1,6 @@
 pub mod Tableau
+pub mod Walk
+pub mod Answers
 pub mod State
 pub mod Views
 pub mod Items

@@ -1,17 +1,17 @@
 //! The search of the propositional tableau: its branches from the left, each closed as soon as an item closes it.
 
-ghost use Rattle.std.specs.Prelude.{◌≡◌, ◌⊎◌, ℕ, ◌+◌, ◌<◌, ◌≤◌, ◌++◌, [], true, false, length, take, IfOk, OnOk, MatchBool, MatchOption};
+ghost use Rattle.std.specs.Prelude.{◌≡◌, ℕ, ◌+◌, ◌*◌, ◌<◌, ◌≤◌, ◌^◌, ◌++◌, length, take, IfOk, OnOk, MatchBool};
 ghost use Rattle.fol_core.specs.View.{formulas_of};
-ghost use Rattle.gs3_rules.specs.Refutes.{RefutedBy};
 ghost use Rattle.gs3_rules.specs.Apply.{rules_of};
-ghost use Rattle.prop_tableau.specs.Tableau.{alpha_at, beta_at, Closes, IsOpen, most_entries, most_splits};
+ghost use Rattle.prop_tableau.specs.Tableau.{alpha_at, beta_at, most_entries, most_splits};
 ghost use Rattle.prop_tableau.specs.Views.{parts_of};
 ghost use Rattle.prop_tableau.specs.Items.{IsItemless};
 ghost use Rattle.prop_tableau.specs.Scan.{IsNoneFrom, IsFirstFrom, AreItemless};
-ghost use Rattle.prop_tableau.specs.Search.{IsShort, HasOutcome, AreItemlessBelow, Extends, ArePropositional};
+ghost use Rattle.prop_tableau.specs.Search.{IsShort, HasOutcome, AreItemlessBelow, Extends, Finds};
 ghost use Rattle.prop_tableau.specs.BranchView.{entries_of, IsSound};
-ghost use Rattle.prop_tableau.specs.Progresses.{Progresses, Saturates, IsDone, FitsBoth, CrowdsOne};
+ghost use Rattle.prop_tableau.specs.Progresses.{Progresses, Saturates, IsDone, IsNamed, FitsBoth, CrowdsOne};
 
+use crate::answers::{Found, Verdict, open_answer};
 use crate::branch::{Branch, cut, push_parts, start_branch};
 use crate::scan::{first_item, next_alpha, next_beta};
 use crate::signed::Parts;
@@ -26,6 +26,9 @@ const MOST_ENTRIES: usize = 4_294_967_295;
 /// The greatest number of splits on a branch.
 const MOST_SPLITS: u32 = 120;
 
+/// The number of segments after which the walk for an open leaf is cut.
+const MOST_SEGMENTS: u32 = 100_000;
+
 /// How far a search has come on a branch.
 #[derive(Clone, Copy)]
 pub(crate) struct Cursor {
@@ -36,6 +39,8 @@ pub(crate) struct Cursor {
     /// No item has its later place below this one.
     pub checked: usize,
     pub splits: u32,
+    /// The name of the segment.
+    pub name: u128,
 }
 
 /// How a search goes on with a branch.
@@ -89,6 +94,7 @@ fn take_alpha<'a>(
         betas: cursor.betas,
         checked: len,
         splits: cursor.splits,
+        name: cursor.name,
     }))
 }
 
@@ -118,6 +124,7 @@ fn advance(
                 betas: cursor.betas,
                 checked: len,
                 splits: cursor.splits,
+                name: cursor.name,
             }))
         }
     }
@@ -149,26 +156,34 @@ fn saturate(
     }
 }
 
-/// Searches the branch, whose entries stay at its front: whether it closes, by the steps that are added.
+/// Searches the branch, whose entries stay at its front: whether it closes, by the steps that are added. Each segment
+/// is visited once.
 #[cycle(search)]
 fn close_branch(
     branch: &mut Branch<'_>,
     steps: &mut Steps,
+    visits_left: &mut u32,
     cursor: Cursor,
-) -> Result<bool, AllocError>
+) -> Result<Verdict, AllocError>
     requires sound { IsSound branch.old }
     requires checked { AreItemlessBelow (entries_of branch.old) cursor.checked }
     requires short { IsShort (entries_of branch.old) }
+    requires named { IsNamed cursor }
     ensures sound { OnOk result (IsSound branch.new) }
     ensures short { OnOk result (IsShort (entries_of branch.new)) }
     ensures extends { OnOk result (Extends (entries_of branch.old) (entries_of branch.new)) }
     ensures outcome { IfOk result (HasOutcome (entries_of branch.old) cursor.alphas cursor.betas cursor.splits
-        (rules_of steps.old) (rules_of steps.new)) }
+        cursor.name visits_left.old visits_left.new (rules_of steps.old) (rules_of steps.new)) }
 {
     match saturate(branch, steps, cursor)? {
-        Progress::Closed => Ok(true),
-        Progress::Done(next) => split_branch(branch, steps, next),
-        Progress::Full | Progress::More(_) => Ok(false),
+        Progress::Closed => {
+            *visits_left = visits_left.saturating_sub(1);
+            Ok(Verdict::Closed)
+        }
+        Progress::Done(next) => split_branch(branch, steps, visits_left, next),
+        Progress::Full | Progress::More(_) => {
+            Ok(Verdict::Open(open_answer(cursor.name, *visits_left)))
+        }
     }
 }
 
@@ -177,23 +192,25 @@ fn close_branch(
 fn split_branch(
     branch: &mut Branch<'_>,
     steps: &mut Steps,
+    visits_left: &mut u32,
     cursor: Cursor,
-) -> Result<bool, AllocError>
+) -> Result<Verdict, AllocError>
     requires sound { IsSound branch.old }
     requires done { IsDone (entries_of branch.old) cursor }
     requires short { IsShort (entries_of branch.old) }
+    requires named { IsNamed cursor }
     ensures sound { OnOk result (IsSound branch.new) }
     ensures short { OnOk result (IsShort (entries_of branch.new)) }
     ensures extends { OnOk result (Extends (entries_of branch.old) (entries_of branch.new)) }
     ensures outcome { IfOk result (HasOutcome (entries_of branch.old) cursor.alphas cursor.betas cursor.splits
-        (rules_of steps.old) (rules_of steps.new)) }
+        cursor.name visits_left.old visits_left.new (rules_of steps.old) (rules_of steps.new)) }
 {
     if cursor.splits >= MOST_SPLITS {
-        return Ok(false);
+        return Ok(Verdict::Open(open_answer(cursor.name, *visits_left)));
     }
     match next_beta(branch, cursor.betas) {
-        None => Ok(false),
-        Some((place, sides)) => close_sides(branch, steps, cursor, place, sides),
+        None => Ok(Verdict::Open(open_answer(cursor.name, *visits_left))),
+        Some((place, sides)) => close_sides(branch, steps, visits_left, cursor, place, sides),
     }
 }
 
@@ -212,18 +229,31 @@ fn has_room(len: usize, sides: &(Parts<'_>, Parts<'_>)) -> bool
     true
 }
 
+/// The name of the segment on the left below one.
+fn left_name(cursor: Cursor) -> u128
+    requires named { IsNamed cursor }
+    requires few { cursor.splits < most_splits }
+    ensures twice { result ≡ 2 * cursor.name }
+    ensures named { result + 1 < 2 ^ (cursor.splits + 2) }
+    ensures fits { result + 1 < 2 ^ 128 }
+{
+    2 * cursor.name
+}
+
 /// Splits the branch at an entry and searches both sides, the left one first.
 #[cycle(search)]
 fn close_sides<'a>(
     branch: &mut Branch<'a>,
     steps: &mut Steps,
+    visits_left: &mut u32,
     cursor: Cursor,
     place: usize,
     sides: (Parts<'a>, Parts<'a>),
-) -> Result<bool, AllocError>
+) -> Result<Verdict, AllocError>
     requires sound { IsSound branch.old }
     requires done { IsDone (entries_of branch.old) cursor }
     requires short { IsShort (entries_of branch.old) }
+    requires named { IsNamed cursor }
     requires first { IsFirstFrom (beta_at (entries_of branch.old)) cursor.betas place (parts_of sides.0, parts_of sides.1) }
     requires within { place < length (entries_of branch.old) }
     requires few { cursor.splits < most_splits }
@@ -231,28 +261,38 @@ fn close_sides<'a>(
     ensures short { OnOk result (IsShort (entries_of branch.new)) }
     ensures extends { OnOk result (Extends (entries_of branch.old) (entries_of branch.new)) }
     ensures outcome { IfOk result (HasOutcome (entries_of branch.old) cursor.alphas cursor.betas cursor.splits
-        (rules_of steps.old) (rules_of steps.new)) }
+        cursor.name visits_left.old visits_left.new (rules_of steps.old) (rules_of steps.new)) }
 {
     let keep = branch.entries.len();
     if !has_room(keep, &sides) {
-        return Ok(false);
+        return Ok(Verdict::Open(open_answer(cursor.name, *visits_left)));
     }
     steps.push(Step::Beta {
         place: place as u32,
     })?;
-    let below = Cursor {
+    *visits_left = visits_left.saturating_sub(1);
+    let (left, right) = sides;
+    let on_left = Cursor {
         alphas: cursor.alphas,
         betas: place + 1,
         checked: keep,
         splits: cursor.splits + 1,
+        name: left_name(cursor),
     };
-    let (left, right) = sides;
-    let closed = close_side(branch, steps, below, left)?;
-    if !closed {
-        return Ok(false);
+    match close_side(branch, steps, visits_left, on_left, left)? {
+        Verdict::Open(answer) => Ok(Verdict::Open(answer)),
+        Verdict::Closed => {
+            cut(branch, keep);
+            let on_right = Cursor {
+                alphas: cursor.alphas,
+                betas: place + 1,
+                checked: keep,
+                splits: cursor.splits + 1,
+                name: on_left.name + 1,
+            };
+            close_side(branch, steps, visits_left, on_right, right)
+        }
     }
-    cut(branch, keep);
-    close_side(branch, steps, below, right)
 }
 
 /// Searches one side of a split, which these parts begin.
@@ -260,46 +300,48 @@ fn close_sides<'a>(
 fn close_side<'a>(
     branch: &mut Branch<'a>,
     steps: &mut Steps,
+    visits_left: &mut u32,
     cursor: Cursor,
     parts: Parts<'a>,
-) -> Result<bool, AllocError>
+) -> Result<Verdict, AllocError>
     requires sound { IsSound branch.old }
     requires items { AreItemless (entries_of branch.old) 0 }
     requires checked { cursor.checked ≡ length (entries_of branch.old) }
+    requires named { IsNamed cursor }
     requires fits { length (entries_of branch.old) + length (parts_of parts) ≤ most_entries }
     ensures sound { OnOk result (IsSound branch.new) }
     ensures short { OnOk result (IsShort (entries_of branch.new)) }
     ensures extends { OnOk result (Extends (entries_of branch.old) (entries_of branch.new)) }
     ensures outcome { IfOk result (HasOutcome (entries_of branch.old ++ parts_of parts.entry) cursor.alphas cursor.betas cursor.splits
-        (rules_of steps.old) (rules_of steps.new)) }
+        cursor.name visits_left.old visits_left.new (rules_of steps.old) (rules_of steps.new)) }
 {
     push_parts(branch, parts)?;
-    close_branch(branch, steps, cursor)
+    close_branch(branch, steps, visits_left, cursor)
 }
 
-/// Searches the tableau of a start list: the steps of a proof where it closes, and None where it does not.
+/// Searches the tableau of a start list: the steps of a proof where it closes, and else the answer of the walk over its
+/// segments.
 ///
 /// The tableau is that of the propositional rules, the conjunctive entries first, each kind in the order of places,
 /// with at most 120 splits and 4,294,967,295 entries on a branch.
-pub fn find_proof(alloc: Global, start: &Formulas) -> Result<Option<Steps>, AllocError>
-    ensures { IfOk result (λ found. MatchOption found
-        (ArePropositional (formulas_of start.now) → IsOpen (formulas_of start.now))
-        (λ steps. RefutedBy (formulas_of start.now) (rules_of steps) × Closes (formulas_of start.now))) }
+pub fn find_proof(alloc: Global, start: &Formulas) -> Result<Found, AllocError>
+    ensures { IfOk result (Finds (formulas_of start.now)) }
 {
     if start.len() > MOST_ENTRIES {
         return Err(AllocError);
     }
     let mut branch = start_branch(alloc, start)?;
     let mut steps = Items::new(alloc);
+    let mut visits_left = MOST_SEGMENTS;
     let root = Cursor {
         alphas: 0,
         betas: 0,
         checked: 0,
         splits: 0,
+        name: 1,
     };
-    if close_branch(&mut branch, &mut steps, root)? {
-        Ok(Some(steps))
-    } else {
-        Ok(None)
+    match close_branch(&mut branch, &mut steps, &mut visits_left, root)? {
+        Verdict::Closed => Ok(Found::Proof(steps)),
+        Verdict::Open(answer) => Ok(Found::Open(answer)),
     }
 }

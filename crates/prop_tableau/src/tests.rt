@@ -1,7 +1,7 @@
-use crate::find_proof;
+use crate::{Found, OpenAnswer, find_proof};
 use containers::{Boxed, Items};
 use fol_core::{Formula, Formulas};
-use gs3_rules::{Step, Steps};
+use gs3_rules::Step;
 use std::alloc::{AllocError, Global};
 
 fn atom(alloc: Global, symbol: u32) -> Formula {
@@ -21,8 +21,8 @@ fn start(alloc: Global, last: u32) -> Result<Formulas, AllocError> {
 }
 
 /// Whether the steps found are `beta 1`, `close 0 3` and `close 3 2`.
-fn is_split_and_closes(found: Option<Steps>) -> bool {
-    let Some(steps) = found else {
+fn is_split_and_closes(found: Found) -> bool {
+    let Found::Proof(steps) = found else {
         return false;
     };
     matches!(steps.get(0), Some(Step::Beta { place: 1 }))
@@ -57,6 +57,6 @@ fn leaves_an_open_branch(rt: HostRuntime) -> Result<(), AllocError> {
     let alloc = rt.alloc();
     let list = start(alloc, 2)?;
     let found = find_proof(alloc, &list)?;
-    assert!(rt; found.is_none());
+    assert!(rt; matches!(found, Found::Open(OpenAnswer::Branch(3))));
     Ok(())
 }

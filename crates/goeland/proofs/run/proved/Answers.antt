@@ -5,7 +5,7 @@ use Rattle.gs3_rules.specs.Apply.{rules_of}
 use Rattle.std.specs.List.{AllByRecursion}
 use Rattle.gs3_text.specs.ProofText.{IsSpellableTerm, ProofText, text_of}
 use Rattle.goeland.specs.Run.{head_lines}
-use Rattle.goeland.proofs.Refutations.{whole, refutation_shape}
+use Rattle.gs3_rules.proofs.Shapes.{whole, refutation_shape}
 use Rattle.goeland.proofs.Spelled.{spelled_tree}
 use Rattle.goeland.proofs.Reports.{printed_text, some_map}
 use Rattle.goeland.proofs.run.proved.Goals as goal

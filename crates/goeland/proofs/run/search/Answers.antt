@@ -1,14 +1,18 @@
-use Rattle.std.proofs.Common.{inr}
+use Rattle.std.proofs.Common.{append-nil, ◌∙◌}
 use Rattle.fof_parse.specs.ProblemView.{plain_problem}
+use Rattle.prop_tableau.specs.Answers.{walk_answer_of}
 use Rattle.goeland.proofs.run.search.Goals as goal
 
-pub returns-in-None : goal.returns-in-None
-returns-in-None c bytes text =
-    inr (record {
-      problem = plain_problem c.args.problem.now;
-      text = text;
-      is_open = (rw c.in_ok-start.ensures at (rw c.in-None.is at c.in_ok-find_proof.ensures)) c.requires;
-    })
-
 pub proved-requires-clause-closes : goal.proved-requires-clause-closes
-proved-requires-clause-closes c = (rw c.in_ok-start.ensures at (rw c.in-Some.is at c.in_ok-find_proof.ensures)).1
+proved-requires-clause-closes c = (rw c.in_ok-start.ensures at (rw c.in-Proof.is at c.in_ok-found.ensures)).1
+
+pub returns : goal.returns
+returns c bytes text =
+    let open_ = (rw c.in_ok-start.ensures at (rw c.in-Open.is at c.in_ok-found.ensures)) c.requires in record {
+      problem = plain_problem c.args.problem.now;
+      of_text = text;
+      is_open = open_.0;
+      answer = walk_answer_of c.in-Open.answer;
+      of_walk = open_.1;
+      is_text = append-nil c.in_ok-given_up-in-Open.field-0.items ∙ c.in_ok-given_up-in-Open.ensures;
+    }

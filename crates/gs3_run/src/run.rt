@@ -1,0 +1,218 @@
+//! A check: a problem and a proof on the shelf, and the line that says what the proof is.
+
+ghost use Rattle.std.specs.Prelude.{◌≡◌, ◌≤◌, ◌++◌, ◌∷◌, [], Some, length, decimal, IfOk, OnErr, MatchOption};
+ghost use Rattle.fof_parse.specs.ProblemView.{plain_problem};
+ghost use Rattle.gs3_run.specs.Run.{words_of, AreNames, AreNoNames, HaveNames, most_problem_bytes, printed, status_of, Judges, FitsProof, FitsBoth, Fits, Prints, Ran};
+ghost use Rattle.gs3_text.specs.ProofText.{text_of};
+
+use fof_parse::{MAX_BYTES, Problem, ReadError, read_problem};
+use gl_outside::{FetchError, Shelf, Sink, SinkFailed};
+use gs3_kernel::{CheckError, check};
+use gs3_text::{TextError, read_tree};
+use itoa::Buffer;
+use std::alloc::{AllocError, Global};
+
+/// The longest text of a proof, in bytes.
+const MAX_PROOF_BYTES: u64 = 134_217_728;
+
+/// How a check ended.
+#[derive(Clone, Copy, Debug, PartialEq, Eq)]
+pub enum CheckStatus {
+    /// The text is a proof of the problem.
+    Valid,
+    /// The text is no proof text, or a step of the proof goes wrong.
+    Invalid,
+    /// The words are not the names of a problem and a proof.
+    Usage,
+    /// The problem is too large or has what is not built yet, or the proof is too large.
+    Refused,
+    /// The problem or the proof could not be read.
+    ReadFault,
+    /// The output could not be written whole.
+    WriteFault,
+    OutOfMemory,
+}
+
+/// What a check has to print.
+#[derive(Drop)]
+pub(crate) enum Report {
+    Usage,
+    TooLarge,
+    NotBuilt,
+    TooLargeProof,
+    ReadFault,
+    Valid,
+    /// The line that says where the proof is malformed or wrong.
+    Invalid(Vec<u8>),
+}
+
+/// A line of these words and this number.
+fn numbered(alloc: Global, words: &[u8], number: u64) -> Result<Vec<u8>, AllocError>
+    ensures { IfOk result (λ v. v.items ≡ text_of ((words.now ++ decimal number) ∷ [])) }
+{
+    let mut text = Vec::from_slice(alloc, words)?;
+    let mut buffer = Buffer::new();
+    text.extend_from_slice(buffer.format(number).as_bytes())?;
+    text.push(b'\n')?;
+    Ok(text)
+}
+
+/// The report of a text that is to be a proof of the problem.
+fn judge(alloc: Global, problem: &Problem, bytes: &[u8]) -> Result<Report, AllocError>
+    ensures { IfOk result (Judges (plain_problem problem.now) bytes.now) }
+{
+    let read = match read_tree(alloc, &problem.symbols, bytes) {
+        Ok(read) => read,
+        Err(TextError::Malformed { line }) => {
+            return Ok(Report::Invalid(numbered(alloc, b"% gs3check Malformed ", line)?));
+        }
+        Err(TextError::OutOfMemory) => return Err(AllocError),
+    };
+    match check(alloc, problem, &read.tree) {
+        Ok(()) => Ok(Report::Valid),
+        Err(CheckError::Wrong { step }) => {
+            let line = read.lines.as_slice()[step as usize];
+            Ok(Report::Invalid(numbered(alloc, b"% gs3check Wrong ", line)?))
+        }
+        Err(CheckError::OutOfMemory) => Err(AllocError),
+    }
+}
+
+/// The report of the proof on the shelf under a name, for a problem that was read.
+fn report_proof<S: Shelf>(
+    alloc: Global,
+    problem: &Problem,
+    name: &str,
+    shelf: &mut S,
+) -> Result<Report, AllocError>
+    ensures fits { IfOk result (FitsProof (plain_problem problem.now) (S.holds shelf.old name.now) (S.faults shelf.old) (S.faults shelf.new)) }
+    ensures err { OnErr result (S.faults shelf.new ≡ S.faults shelf.old) }
+{
+    match shelf.fetch(alloc, name, MAX_PROOF_BYTES) {
+        Ok(bytes) => judge(alloc, problem, &bytes),
+        Err(FetchError::Failed) => Ok(Report::ReadFault),
+        Err(FetchError::TooLong) => Ok(Report::TooLargeProof),
+        Err(FetchError::OutOfMemory) => Err(AllocError),
+    }
+}
+
+/// The report of the text of a problem, and of the proof on the shelf under a name.
+fn report_text<S: Shelf>(
+    alloc: Global,
+    bytes: &[u8],
+    proof: &str,
+    shelf: &mut S,
+) -> Result<Report, AllocError>
+    requires { length bytes.now ≤ most_problem_bytes }
+    ensures fits { IfOk result (FitsBoth (Some bytes.now) (S.holds shelf.old proof.now) (S.faults shelf.old) (S.faults shelf.new)) }
+    ensures err { OnErr result (S.faults shelf.new ≡ S.faults shelf.old) }
+{
+    match read_problem(alloc, bytes) {
+        Ok(problem) => report_proof(alloc, &problem, proof, shelf),
+        Err(ReadError::TooLarge) => Ok(Report::TooLarge),
+        Err(ReadError::NotBuilt) => Ok(Report::NotBuilt),
+        Err(ReadError::OutOfMemory) => Err(AllocError),
+    }
+}
+
+/// The report of the problem and the proof on the shelf under these names.
+fn report_both<S: Shelf>(
+    alloc: Global,
+    problem: &str,
+    proof: &str,
+    shelf: &mut S,
+) -> Result<Report, AllocError>
+    ensures fits { IfOk result (FitsBoth (S.holds shelf.old problem.now) (S.holds shelf.old proof.now) (S.faults shelf.old) (S.faults shelf.new)) }
+    ensures err { OnErr result (S.faults shelf.new ≡ S.faults shelf.old) }
+{
+    match shelf.fetch(alloc, problem, MAX_BYTES as u64) {
+        Ok(bytes) => report_text(alloc, &bytes, proof, shelf),
+        Err(FetchError::Failed) => Ok(Report::ReadFault),
+        Err(FetchError::TooLong) => Ok(Report::TooLarge),
+        Err(FetchError::OutOfMemory) => Err(AllocError),
+    }
+}
+
+/// The names of the problem and of the proof.
+fn names_of(words: &[String]) -> Option<(&str, &str)>
+    ensures { MatchOption result (AreNoNames (words_of words.now)) (λ n. AreNames (words_of words.now) n.0.now n.1.now) }
+{
+    let [problem, proof] = words else {
+        return None;
+    };
+    let (problem, proof) = (problem.as_str(), proof.as_str());
+    if problem.is_empty() || proof.is_empty() {
+        return None;
+    }
+    if problem == "-" && proof == "-" {
+        return None;
+    }
+    Some((problem, proof))
+}
+
+/// The report of a check.
+fn decide<S: Shelf>(alloc: Global, words: &[String], shelf: &mut S) -> Result<Report, AllocError>
+    ensures fits { IfOk result (Fits (words_of words.now) (S.holds shelf.old) (S.faults shelf.old) (S.faults shelf.new)) }
+    ensures err { OnErr result ((S.faults shelf.new ≡ S.faults shelf.old) × HaveNames (words_of words.now)) }
+{
+    match names_of(words) {
+        Some((problem, proof)) => report_both(alloc, problem, proof, shelf),
+        None => Ok(Report::Usage),
+    }
+}
+
+/// What is printed. It takes no memory.
+fn line_of(report: &Report) -> &[u8]
+    ensures { result.now ≡ printed report.now }
+{
+    match report {
+        Report::Usage => b"% usage: gs3check PROBLEM PROOF\n",
+        Report::TooLarge => b"% refused TooLarge\n",
+        Report::NotBuilt => b"% refused NotBuilt\n",
+        Report::TooLargeProof => b"% refused TooLarge proof\n",
+        Report::ReadFault => b"% read fault\n",
+        Report::Valid => b"% gs3check Valid\n",
+        Report::Invalid(text) => text.as_slice(),
+    }
+}
+
+fn end_of(report: &Report) -> CheckStatus
+    ensures { result ≡ status_of report.now }
+{
+    match report {
+        Report::Usage => CheckStatus::Usage,
+        Report::TooLarge | Report::NotBuilt | Report::TooLargeProof => CheckStatus::Refused,
+        Report::ReadFault => CheckStatus::ReadFault,
+        Report::Valid => CheckStatus::Valid,
+        Report::Invalid(_) => CheckStatus::Invalid,
+    }
+}
+
+fn tell<K: Sink>(out: &mut K, report: &Report) -> CheckStatus
+    ensures { Prints report.now (K.written out.old) (K.written out.new) (K.faults out.old) (K.faults out.new) result }
+{
+    match out.put(line_of(report)) {
+        Ok(()) => end_of(report),
+        Err(SinkFailed) => CheckStatus::WriteFault,
+    }
+}
+
+/// Checks a proof of a problem: the words are the names of both on the shelf, neither of them empty, and `-` at most once.
+///
+/// The problem is read first, and refused before the proof is fetched; the proof is then checked for its text, and at last step by
+/// step. One line is written by one put, and says what the proof is. A read fault is the answer exactly where the shelf's
+/// count of faults rose. After want of memory nothing was written.
+pub fn check_run<S: Shelf, K: Sink>(
+    alloc: Global,
+    words: &[String],
+    shelf: &mut S,
+    out: &mut K,
+) -> CheckStatus
+    ensures { Ran (words_of words.now) (S.holds shelf.old) (S.faults shelf.old) (S.faults shelf.new)
+        (K.written out.old) (K.written out.new) (K.faults out.old) (K.faults out.new) result }
+{
+    match decide(alloc, words, shelf) {
+        Ok(report) => tell(out, &report),
+        Err(AllocError) => CheckStatus::OutOfMemory,
+    }
+}

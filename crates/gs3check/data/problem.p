@@ -1,0 +1,3 @@
+fof(rains, axiom, p).
+fof(then_wet, axiom, p => q).
+fof(wet, conjecture, q).
