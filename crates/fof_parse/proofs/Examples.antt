@@ -1,49 +1,89 @@
 -- The definitions on small examples.
-use Rattle.std.proofs.Common.{◌≡◌, [], ◌∷◌, codes, None, refl}
-use Rattle.fof_parse.specs.declared.token.Operator.TheVariants.{Implies, And, Or}
-use Rattle.fof_parse.specs.declared.token.Mark.TheVariants.{Open, Close, Not, Binary}
-use Rattle.fof_parse.specs.Token.{word, marked, tokens}
+use Rattle.std.proofs.Common.{◌≡◌, ℕ, Bool, true, false, List, [], ◌∷◌, ◌++◌, replicate, codes, Option, Some, None, refl}
+use Rattle.fof_parse.specs.declared.refusal.BadKind.{BadKind}
+use Rattle.fof_parse.specs.declared.refusal.BadKind.TheVariants as kinds
+use Rattle.fof_parse.specs.declared.token.Operator.TheVariants.{And, Or}
+use Rattle.fof_parse.specs.declared.token.Quantifier.TheVariants as quantifiers
+use Rattle.fof_parse.specs.declared.token.Equality.TheVariants.{Equal}
+use Rattle.fof_parse.specs.declared.token.Bracket.TheVariants.{Round, Square}
+use Rattle.fof_parse.specs.declared.token.Mark.TheVariants.{Open, Close, Comma, Stop, Colon, Not, Quantifier, Binary, Equality}
+use Rattle.fof_parse.specs.Token.{Token, lower, upper, dollar, number, distinct, marked, unescaped}
 use Rattle.fof_parse.specs.Nesting.{nesting}
-use Rattle.fof_parse.specs.Grammar.{Sentence, name, binary, IsUnit, name_, parentheses_, two, more, IsFormula, conjunction_}
-use Rattle.fof_parse.specs.Reading.{statement_at, heading_at, ending_at, unit_within}
+use Rattle.fof_parse.specs.Grammar.{Symbol, word, Sentence, Statement}
+use Rattle.fof_parse.specs.Refusal.{early_fault, late_fault}
+use Rattle.fof_parse.specs.Reading.{heading_at, statement_within, term_within, unit_within}
 
-tokens_row : tokens (codes "~( p|q)=>r") ≡ marked Not ∷ marked Open ∷ word (codes "p") ∷ marked (Binary Or) ∷ word (codes "q") ∷ marked Close ∷ marked (Binary Implies) ∷ word (codes "r") ∷ []
-tokens_row = refl
+-- the tokens of a statement
+abbrev statement : List Token → List Token → List Token
+statement role formula =
+    lower (codes "fof") ∷ marked (Open Round) ∷ lower (codes "a") ∷ marked Comma ∷ role ++ marked Comma ∷ formula ++ marked (Close Round) ∷ marked Stop ∷ []
 
--- the count is 2 behind the second `(`, 3 behind the first `&`, 1 behind the first `)`, and 3 again behind `~`
-nesting_row : nesting 0 [] (tokens (codes "fof(a,axiom,(p&q)&~r).")) ≡ 3
-nesting_row = refl
+abbrev applied_to : List ℕ → Token → List Token
+applied_to p t = lower p ∷ marked (Open Round) ∷ t ∷ marked (Close Round) ∷ []
 
--- what a closed parenthesis counted is forgotten
-forgotten_row : nesting 0 [] (tokens (codes "fof(a,axiom,((~p))&q&r).")) ≡ 4
-forgotten_row = refl
+abbrev refusal : Bool → Option Statement → Option BadKind
+refusal had None = Some kinds.Syntax
+refusal had (Some st) = late_fault had st
 
-p : IsUnit (tokens (codes "p")) (name (codes "p"))
-p = name_ (codes "p") refl
+-- the refusal of an axiom with this formula, by as many steps as it has tokens and more
+abbrev fault_of : List Token → Option BadKind
+fault_of ts = refusal false (statement_within 20 (statement (lower (codes "axiom") ∷ []) ts))
 
-q : IsUnit (tokens (codes "q")) (name (codes "q"))
-q = name_ (codes "q") refl
+-- `$false` is no fault as a whole atom
+false_row : fault_of (dollar (codes "$false") ∷ []) ≡ None
+unfolding statement_within heading_at unit_within term_within
+false_row = refl
 
-r : IsUnit (tokens (codes "r")) (name (codes "r"))
-r = name_ (codes "r") refl
+-- `![X]:p(X) & q(X)`: the scope of the quantifier ends before `&`
+scope_row : fault_of (marked (Quantifier quantifiers.All) ∷ marked (Open Square) ∷ upper (codes "X") ∷ marked (Close Square) ∷ marked Colon
+    ∷ applied_to (codes "p") (upper (codes "X")) ++ marked (Binary And) ∷ applied_to (codes "q") (upper (codes "X"))) ≡ Some kinds.FreeVariable
+unfolding statement_within heading_at unit_within term_within
+scope_row = refl
 
-joined_row : Sentence
-joined_row = binary And (binary And (name (codes "p")) (name (codes "q"))) (name (codes "r"))
-
--- a chain is joined from the left on, and parentheses that say so change nothing
-chain_row : IsFormula (tokens (codes "p & q & r")) joined_row
-unfolding joined_row
-chain_row = conjunction_ _ _ (more And _ _ _ _ (two And _ _ _ _ p q) r)
-
-grouped_row : IsFormula (tokens (codes "(p & q) & r")) joined_row
-unfolding joined_row
-grouped_row = conjunction_ _ _ (two And _ _ _ _ (parentheses_ _ _ (conjunction_ _ _ (two And _ _ _ _ p q))) r)
-
--- no operators are mixed, and `=>` joins two units
-mixed_row : statement_at (tokens (codes "fof(a,axiom,p&q|r).")) ≡ None
-unfolding statement_at heading_at ending_at unit_within
+-- no operators are mixed
+mixed_row : fault_of (lower (codes "p") ∷ marked (Binary And) ∷ lower (codes "q") ∷ marked (Binary Or) ∷ lower (codes "r") ∷ []) ≡ Some kinds.Syntax
+unfolding statement_within heading_at unit_within term_within
 mixed_row = refl
 
-twice_row : statement_at (tokens (codes "fof(a,axiom,p=>q=>r).")) ≡ None
-unfolding statement_at heading_at ending_at unit_within
-twice_row = refl
+equality_row : fault_of (lower (codes "a") ∷ marked (Equality Equal) ∷ lower (codes "b") ∷ []) ≡ Some kinds.Equality
+unfolding statement_within heading_at unit_within term_within
+equality_row = refl
+
+number_row : fault_of (applied_to (codes "p") (number (codes "1"))) ≡ Some kinds.Number
+unfolding statement_within heading_at unit_within term_within
+number_row = refl
+
+distinct_row : fault_of (applied_to (codes "p") (distinct (codes "x"))) ≡ Some kinds.Distinct
+unfolding statement_within heading_at unit_within term_within
+distinct_row = refl
+
+dollar_row : fault_of (dollar (codes "$less") ∷ marked (Open Round) ∷ lower (codes "a") ∷ marked Comma ∷ lower (codes "b") ∷ marked (Close Round) ∷ []) ≡ Some kinds.Dollar
+unfolding statement_within heading_at unit_within term_within
+dollar_row = refl
+
+role_row : refusal false (statement_within 20 (statement (lower (codes "type") ∷ []) (lower (codes "p") ∷ []))) ≡ Some kinds.Role
+unfolding statement_within heading_at unit_within term_within
+role_row = refl
+
+second_row : refusal true (statement_within 20 (statement (lower (codes "conjecture") ∷ []) (lower (codes "q") ∷ []))) ≡ Some kinds.SecondConjecture
+unfolding statement_within heading_at unit_within term_within
+second_row = refl
+
+include_row : early_fault (lower (codes "include") ∷ marked (Open Round) ∷ []) ≡ Some kinds.Include
+include_row = refl
+
+language_row : early_fault (lower (codes "cnf") ∷ marked (Open Round) ∷ []) ≡ Some kinds.Language
+language_row = refl
+
+abbrev negations : ℕ → List Token
+negations n = statement (lower (codes "axiom") ∷ []) (replicate n (marked Not) ++ lower (codes "p") ∷ [])
+
+shallow_row : early_fault (negations 499) ≡ None
+shallow_row = refl
+
+deep_row : early_fault (negations 500) ≡ Some kinds.TooDeep
+deep_row = refl
+
+-- an escaped quote and an escaped backslash
+escape_row : unescaped (codes "Bea O\\'Hara \\\\") ≡ codes "Bea O'Hara \\"
+escape_row = refl

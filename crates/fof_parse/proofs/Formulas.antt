@@ -1,270 +1,142 @@
--- Reading a formula from the left is reading it by the grammar.
-use Rattle.std.proofs.Common.{◌≡◌, ℕ, zero, suc, ◌+◌, ◌<◌, ◌≤◌, true, cond, List, [], ◌∷◌, ◌++◌, Option, Some, None, refl, ap, subst, ◌∙◌, append_assoc, arith}
+-- What is read of a formula, from what is read of its parts.
+use Rattle.std.proofs.Common.{◌≡◌, ℕ, zero, suc, ◌<◌, ◌≤◌, true, cond, List, [], ◌∷◌, ◌++◌, length, Option, Some, None, refl, sym, ap, ◌∙◌, length-append, arith}
 use Rattle.fof_parse.specs.declared.token.Operator.{Operator}
-use Rattle.fof_parse.specs.declared.token.Operator.TheVariants.{Implies, And, Or}
-use Rattle.fof_parse.specs.declared.token.Mark.TheVariants.{Open, Close, Not, Binary}
-use Rattle.fof_parse.specs.Token.{Token, word, marked, other}
-use Rattle.fof_parse.specs.Nesting.{nesting}
-use Rattle.fof_parse.specs.Grammar.{Sentence, name, negation, binary, IsLowerWord, IsUnit, name_, negation_, parentheses_, IsChain, two, more, IsFormula, unit_, implication_, conjunction_, disjunction_}
-use Rattle.fof_parse.specs.Reading.{◌>>=◌, after_mark, repeats, can_join, operator_at, next_operator, Found, Reader, deeper, unit_by, if_operator, operand_by, chain_by, unit_within, formula_within}
-use Rattle.fof_parse.proofs.Fronts.{can_join_again}
+use Rattle.fof_parse.specs.declared.token.Quantifier.{Quantifier as Quantor}
+use Rattle.fof_parse.specs.declared.token.Equality.{Equality as Equation}
+use Rattle.fof_parse.specs.declared.token.Bracket.TheVariants.{Round, Square}
+use Rattle.fof_parse.specs.declared.token.Mark.TheVariants.{Open, Close, Comma, Colon}
+use Rattle.fof_parse.specs.Token.{Token}
+use Rattle.fof_parse.specs.Grammar.{Term, applied, Sentence, atom, equality, negation, binary, quantified}
+use Rattle.fof_parse.specs.Reading.{◌>>=◌, if_some, after_mark, one_token, Lead, negation_lead, group_lead, quantifier_lead, lead_of, equality_of, operator_of, variable_of, term_within, equated_by, atom_of, body_by, bound_by, scope_by, led_by, unit_by, next_operator, chain_by, unit_within, formula_within}
+use Rattle.fof_parse.specs.Parsing.{ReadsTerm, ReadsUnit, ReadsBody, ReadsBound, ReadsScope, ReadsFormula}
+use Rattle.fof_parse.proofs.Fronts.{enough}
+use Rattle.fof_parse.proofs.Forwards.{unit_step, chain_end, chain_step}
+use Rattle.fof_parse.proofs.Backwards.{term_sound, unit_sound}
+use Rattle.fof_parse.proofs.Terms.{marked_less, one_less}
 
--- what holds of each number of steps above the room
-pub enough : (P : ℕ → Type 0) (room : ℕ) → ((s : ℕ) → room ≤ s → P (suc s)) → (steps : ℕ) → room < steps → P steps
-enough P room f zero lt = absurd (omega (arith, lt))
-enough P room f (suc s) lt = f s (omega (arith, lt))
+unit_less : (ts : List Token) (a : Sentence) (rest : List Token) → ReadsUnit ts (Some (a, rest)) → length rest ≤ length ts
+unit_less ts a rest h =
+    let s = unit_sound (suc (length ts)) ts a rest (h (suc (length ts)) (omega arith)) in omega (arith, ap length s.cut, length-append s.front rest)
 
--- how units are read, step by step
-pub unit_none : (room : ℕ) (ts : List Token) → unit_within zero room ts ≡ None
-unfolding unit_within
-unit_none room ts = refl
+unit_reads : (ts : List Token) (found : Option (Sentence × List Token)) → ((s : ℕ) → length ts ≤ s → unit_by (term_within (suc s)) (unit_within s) (formula_within s) s ts ≡ found) → ReadsUnit ts found
+unit_reads ts found h = λ steps lt. enough (λ s. unit_within s ts ≡ found) (length ts) (λ s le. unit_step s ts ∙ h s le) steps lt
 
-pub unit_step : (s room : ℕ) (ts : List Token) → unit_within (suc s) room ts ≡ unit_by (unit_within s) (formula_within s) room ts
-unfolding unit_within
-unit_step s room ts = refl
+-- Units that begin with a term
 
--- the chain ends where no operator follows
-pub chain_end : (unit : Reader) (c : ℕ) (by : Option Operator) (left : Found) → left.1 < c → next_operator by left.2 ≡ None → chain_by unit c by left ≡ Some left
-chain_end unit zero by left lt h = absurd (omega (arith, lt))
-chain_end unit (suc c) by left lt h = ap (λ o. if_operator o (Some left) (λ op ts. operand_by unit op left ts >>= λ both. chain_by unit c (Some op) both)) h
+from_term : (ts : List Token) (o : Option (Term × List Token)) (found : Option (Sentence × List Token)) → one_token lead_of ts ≡ None → ReadsTerm ts o
+    → ((s : ℕ) → length ts ≤ s → (o >>= λ t. equated_by (term_within (suc s)) t.0 t.1) ≡ found) → ReadsUnit ts found
+from_term ts o found lead h k =
+    unit_reads ts found (λ s le.
+    ap (λ l. if_some l (term_within (suc s) ts >>= λ t. equated_by (term_within (suc s)) t.0 t.1) (λ p. led_by (unit_within s) (formula_within s) s p.0 p.1)) lead
+    ∙ ap (λ o. o >>= λ (t : Term × List Token). equated_by (term_within (suc s)) t.0 t.1) (h (suc s) (omega (arith, le))) ∙ k s le)
 
-no_next : (by : Option Operator) (ts : List Token) → operator_at ts ≡ None → next_operator by ts ≡ None
-no_next by ts h = ap (λ o. o >>= λ p. cond (can_join by p.0) (Some p) None) h
+pub no_term_no_unit : (ts : List Token) → one_token lead_of ts ≡ None → ReadsTerm ts None → ReadsUnit ts None
+no_term_no_unit ts lead h = from_term ts None None lead h (λ s le. refl)
 
-pub chain_step : (unit : Reader) (c : ℕ) (by : Option Operator) (left : Found) (p : Operator × List Token) (o : Option Found) → next_operator by left.2 ≡ Some p → operand_by unit p.0 left p.1 ≡ o
-    → chain_by unit (suc c) by left ≡ (o >>= λ both. chain_by unit c (Some p.0) both)
-chain_step unit c by left p o h k =
-    ap (λ q. if_operator q (Some left) (λ op ts. operand_by unit op left ts >>= λ both. chain_by unit c (Some op) both)) h
-    ∙ ap (λ q. q >>= λ both. chain_by unit c (Some p.0) both) k
+pub reads_atom : (ts : List Token) (t : Term) (mid : List Token) (o : Option Sentence) (found : Option (Sentence × List Token)) → one_token lead_of ts ≡ None → ReadsTerm ts (Some (t, mid)) → one_token equality_of mid ≡ None → atom_of t ≡ o
+    → (o >>= λ a. Some (a, mid)) ≡ found → ReadsUnit ts found
+reads_atom ts t mid o found lead h none e same =
+    from_term ts (Some (t, mid)) found lead h (λ s le.
+    ap (λ q. if_some q (atom_of t >>= λ a. Some (a, mid)) (λ p. term_within (suc s) p.1 >>= λ u. Some (equality p.0 t u.0, u.1))) none ∙ ap (λ q. q >>= λ a. Some (a, mid)) e ∙ same)
 
-next_front : (by : Option Operator) (op : Operator) (us : List Token) → can_join by op ≡ true → next_operator by (marked (Binary op) ∷ us) ≡ Some (op, us)
-next_front by op us h = ap (λ b. cond b (Some (op, us)) None) h
+term_less_mid : (ts : List Token) (t : Term) (mid : List Token) → ReadsTerm ts (Some (t, mid)) → length mid ≤ length ts
+term_less_mid ts t mid h =
+    let s = term_sound (suc (length ts)) ts t mid (h (suc (length ts)) (omega arith)) in omega (arith, ap length s.cut, length-append s.front mid)
 
--- the greatest count is no less than the first one
-nesting_first : (n : ℕ) (kept : List ℕ) (ts : List Token) → n ≤ nesting n kept ts
-nesting_first n kept [] = omega arith
-nesting_first n kept (word w ∷ ts) = nesting_first n kept ts
-nesting_first n kept (other c ∷ ts) = nesting_first n kept ts
-nesting_first n kept (marked m ∷ ts) = omega arith
+pub reads_equation : (ts : List Token) (t : Term) (mid : List Token) (e : Equation) (us : List Token) (o : Option (Term × List Token)) (found : Option (Sentence × List Token)) → one_token lead_of ts ≡ None → ReadsTerm ts (Some (t, mid))
+    → one_token equality_of mid ≡ Some (e, us) → ReadsTerm us o → (o >>= λ u. Some (equality e t u.0, u.1)) ≡ found → ReadsUnit ts found
+reads_equation ts t mid e us o found lead h some k same =
+    from_term ts (Some (t, mid)) found lead h (λ s le.
+    ap (λ q. if_some q (atom_of t >>= λ a. Some (a, mid)) (λ p. term_within (suc s) p.1 >>= λ u. Some (equality p.0 t u.0, u.1))) some
+    ∙ ap (λ q. q >>= λ (u : Term × List Token). Some (equality e t u.0, u.1)) (k (suc s) (omega (arith, le, term_less_mid ts t mid h, one_less equality_of mid e us some))) ∙ same)
 
--- Forwards: a unit in front is read, whatever stands behind it, and what then stands behind it fits as it did before.
-record UnitRead (front : List Token) (a : Sentence) (room : ℕ) (kept : List ℕ) (tail : List Token) : Type 0 where
-  count : ℕ
-  left : ℕ
-  balance : count + left ≡ 500
-  within : left ≤ room
-  fits : nesting count kept tail ≤ 500
-  reads : (steps : ℕ) → room < steps → (rest : List Token) → unit_within steps room (front ++ rest) ≡ Some (a, left, rest)
+-- Units that begin with `~`, `(` or a quantifier
 
--- the same of a unit behind an operator
-record OperandRead (front : List Token) (a : Sentence) (room : ℕ) (kept : List ℕ) (tail : List Token) : Type 0 where
-  count : ℕ
-  left : ℕ
-  balance : count + left ≡ 500
-  within : left < room
-  fits : nesting count kept tail ≤ 500
-  reads : (steps : ℕ) → room ≤ steps → (rest : List Token) → deeper (unit_within steps) room (front ++ rest) ≡ Some (a, left, rest)
+led : (ts : List Token) (l : Lead) (us : List Token) (found : Option (Sentence × List Token)) → one_token lead_of ts ≡ Some (l, us)
+    → ((s : ℕ) → length us < s → led_by (unit_within s) (formula_within s) s l us ≡ found) → ReadsUnit ts found
+led ts l us found h k =
+    unit_reads ts found (λ s le.
+    ap (λ q. if_some q (term_within (suc s) ts >>= λ t. equated_by (term_within (suc s)) t.0 t.1) (λ p. led_by (unit_within s) (formula_within s) s p.0 p.1)) h
+    ∙ k s (omega (arith, le, one_less lead_of ts l us h)))
 
--- A chain is read as far as it goes, and may go on behind it.
-record ChainRead (op : Operator) (front : List Token) (a : Sentence) (room : ℕ) (kept : List ℕ) (tail : List Token) : Type 0 where
-  count : ℕ
-  left : ℕ
-  balance : count + left ≡ 500
-  within : left ≤ room
-  fits : nesting count kept tail ≤ 500
-  reads : (steps : ℕ) → room < steps → (rest : List Token)
-      → (c : ℕ) × (left < c) × (formula_within steps room (front ++ rest) ≡ chain_by (unit_within steps) c (Some op) (a, left, rest))
+pub reads_negation : (ts us : List Token) (o found : Option (Sentence × List Token)) → one_token lead_of ts ≡ Some (negation_lead, us) → ReadsUnit us o → (o >>= λ a. Some (negation a.0, a.1)) ≡ found
+    → ReadsUnit ts found
+reads_negation ts us o found h k same = led ts negation_lead us found h (λ s lt. ap (λ q. q >>= λ (a : Sentence × List Token). Some (negation a.0, a.1)) (k s lt) ∙ same)
 
--- A formula is read where no operator stands behind it.
-pub record FormulaRead (front : List Token) (a : Sentence) (room : ℕ) (kept : List ℕ) (tail : List Token) : Type 0 where
-  pub count : ℕ
-  pub left : ℕ
-  pub balance : count + left ≡ 500
-  pub fits : nesting count kept tail ≤ 500
-  pub reads : (steps : ℕ) → room < steps → (rest : List Token) → operator_at rest ≡ None → formula_within steps room (front ++ rest) ≡ Some (a, left, rest)
+pub reads_group : (ts us : List Token) (o found : Option (Sentence × List Token)) → one_token lead_of ts ≡ Some (group_lead, us) → ReadsFormula us o
+    → (o >>= λ a. after_mark (Close Round) a.1 >>= λ rest. Some (a.0, rest)) ≡ found → ReadsUnit ts found
+reads_group ts us o found h k same =
+    led ts group_lead us found h (λ s lt. ap (λ q. q >>= λ (a : Sentence × List Token). after_mark (Close Round) a.1 >>= λ rest. Some (a.0, rest)) (k s lt) ∙ same)
 
--- how units are read where the count fits
-Units : List Token → Sentence → Type 0
-Units front a = (n room : ℕ) → n + room ≡ 500 → (kept : List ℕ) (tail : List Token) → nesting n kept (front ++ tail) ≤ 500 → UnitRead front a room kept tail
+pub no_scope : (ts us : List Token) (q : Quantor) → one_token lead_of ts ≡ Some (quantifier_lead q, us) → after_mark (Open Square) us ≡ None → ReadsUnit ts None
+no_scope ts us q h none = led ts (quantifier_lead q) us None h (λ s lt. ap (λ o. o >>= λ vs. scope_by (unit_within s) q s vs) none)
 
-name_read : (w : List ℕ) → IsLowerWord w → Units (word w ∷ []) (name w)
-unfolding Units
-name_read w h n room balance kept tail fits =
-    record {
-      count = n;
-      left = room;
-      balance = balance;
-      within = omega arith;
-      fits = fits;
-      reads = λ steps lt rest. enough (λ s. unit_within s room (word w ∷ rest) ≡ Some (name w, room, rest)) room
-          (λ s le. unit_step s room (word w ∷ rest) ∙ ap (λ b. cond b (Some (name w, room, rest)) None) h) steps lt;
-    }
+pub reads_quantified : (ts us vs : List Token) (q : Quantor) (found : Option (Sentence × List Token)) → one_token lead_of ts ≡ Some (quantifier_lead q, us) → after_mark (Open Square) us ≡ Some vs → ReadsScope q vs found
+    → ReadsUnit ts found
+reads_quantified ts us vs q found h some k =
+    led ts (quantifier_lead q) us found h (λ s lt.
+    let less : length vs < s = omega (arith, lt, marked_less (Open Square) us vs some) in
+    ap (λ o. o >>= λ vs. scope_by (unit_within s) q s vs) some ∙ k s s less less)
 
-negation_read : (ts : List Token) (a : Sentence) → Units ts a → Units (marked Not ∷ ts) (negation a)
-unfolding Units
-negation_read ts a inner n zero balance kept tail fits =
-    absurd (omega (arith, balance, fits, nesting_first (suc n) kept (ts ++ tail)))
-negation_read ts a inner n (suc r) balance kept tail fits =
-    let i = inner (suc n) r (omega (arith, balance)) kept tail (omega (arith, fits)) in
-    record {
-      count = i.count;
-      left = i.left;
-      balance = i.balance;
-      within = omega (arith, i.within);
-      fits = i.fits;
-      reads = λ steps lt rest. enough (λ s. unit_within s (suc r) (marked Not ∷ (ts ++ rest)) ≡ Some (negation a, i.left, rest)) (suc r)
-          (λ s le. unit_step s (suc r) (marked Not ∷ (ts ++ rest)) ∙ ap (λ o. o >>= λ u. Some (negation u.0, u.1, u.2)) (i.reads s (omega (arith, le)) rest)) steps lt;
-    }
+-- Variables
 
--- a formula in parentheses
-group_read : (ts : List Token) (a : Sentence) → ((n room : ℕ) → n + room ≡ 500 → (kept : List ℕ) (tail : List Token) → nesting n kept (ts ++ tail) ≤ 500 → FormulaRead ts a room kept tail)
-    → Units (marked Open ∷ (ts ++ marked Close ∷ [])) a
-unfolding Units
-group_read ts a inner n zero balance kept tail fits =
-    absurd (omega (arith, balance, fits, nesting_first (suc n) (n ∷ kept) ((ts ++ marked Close ∷ []) ++ tail)))
-group_read ts a inner n (suc r) balance kept tail fits =
-    let f = subst (λ us. nesting (suc n) (n ∷ kept) us ≤ 500) (append_assoc ts (marked Close ∷ []) tail) (omega (arith, fits)) in
-    let i = inner (suc n) r (omega (arith, balance)) (n ∷ kept) (marked Close ∷ tail) f in
-    let after : nesting i.count (n ∷ kept) (marked Close ∷ tail) ≤ 500 = i.fits in
-    record {
-      count = n;
-      left = suc r;
-      balance = balance;
-      within = omega arith;
-      fits = omega (arith, after);
-      reads = λ steps lt rest. enough (λ s. unit_within s (suc r) (marked Open ∷ ((ts ++ marked Close ∷ []) ++ rest)) ≡ Some (a, suc r, rest)) (suc r)
-          (λ s le. unit_step s (suc r) (marked Open ∷ ((ts ++ marked Close ∷ []) ++ rest))
-          ∙ ap (λ o. o >>= λ (u : Found). after_mark Close u.2 >>= λ us. Some (u.0, suc r, us))
-          (ap (formula_within s r) (append_assoc ts (marked Close ∷ []) rest) ∙ i.reads s (omega (arith, le)) (marked Close ∷ rest) refl)) steps lt;
-    }
+pub no_variable : (q : Quantor) (ts : List Token) → one_token variable_of ts ≡ None → ReadsScope q ts None
+no_variable q ts h steps zero lt lc = absurd (omega (arith, lc))
+no_variable q ts h steps (suc c) lt lc = ap (λ o. o >>= λ v. bound_by (unit_within steps) (scope_by (unit_within steps) q c) v.1 >>= λ a. Some (quantified q v.0 a.0, a.1)) h
 
-operand_read : (us : List Token) (b : Sentence) → Units us b → (m room : ℕ) → m + room ≡ 500 → (kept : List ℕ) (tail : List Token) → nesting (suc m) kept (us ++ tail) ≤ 500
-    → OperandRead us b room kept tail
-unfolding Units
-operand_read us b unit m zero balance kept tail fits = absurd (omega (arith, balance, fits, nesting_first (suc m) kept (us ++ tail)))
-operand_read us b unit m (suc r) balance kept tail fits =
-    let i = unit (suc m) r (omega (arith, balance)) kept tail fits in
-    record {
-      count = i.count;
-      left = i.left;
-      balance = i.balance;
-      within = omega (arith, i.within);
-      fits = i.fits;
-      reads = λ steps lt rest. i.reads steps (omega (arith, lt)) rest;
-    }
+pub reads_variable : (q : Quantor) (ts : List Token) (w : List ℕ) (us : List Token) (o found : Option (Sentence × List Token)) → one_token variable_of ts ≡ Some (w, us) → ReadsBound q us o
+    → (o >>= λ a. Some (quantified q w a.0, a.1)) ≡ found → ReadsScope q ts found
+reads_variable q ts w us o found h k same steps zero lt lc = absurd (omega (arith, lc))
+reads_variable q ts w us o found h k same steps (suc c) lt lc =
+    let less = one_less variable_of ts w us h in
+    ap (λ o. o >>= λ (v : List ℕ × List Token). bound_by (unit_within steps) (scope_by (unit_within steps) q c) v.1 >>= λ a. Some (quantified q v.0 a.0, a.1)) h
+    ∙ ap (λ o. o >>= λ (a : Sentence × List Token). Some (quantified q w a.0, a.1)) (k steps c (omega (arith, lt, less)) (omega (arith, lc, less))) ∙ same
 
--- a chain goes on by one unit
-chain_more : (steps c : ℕ) (op : Operator) (a b : Sentence) (room left : ℕ) (us rest : List Token) → room < c → repeats op ≡ true
-    → deeper (unit_within steps) room us ≡ Some (b, left, rest) → left < room
-    → (d : ℕ) × (left < d) × (chain_by (unit_within steps) c (Some op) (a, room, marked (Binary op) ∷ us) ≡ chain_by (unit_within steps) d (Some op) (binary op a b, left, rest))
-chain_more steps zero op a b room left us rest lt again h below = absurd (omega (arith, lt))
-chain_more steps (suc c) op a b room left us rest lt again h below = (
-  c,
-  omega (arith, lt, below),
-  chain_step (unit_within steps) c (Some op) (a, room, marked (Binary op) ∷ us) (op, us) (Some (binary op a b, left, rest))
-      (next_front (Some op) op us (can_join_again op again)) (ap (λ o. o >>= λ (u : Found). Some (binary op a u.0, u.1, u.2)) h),
-)
+pub reads_more_variables : (q : Quantor) (ts us : List Token) (found : Option (Sentence × List Token)) → after_mark Comma ts ≡ Some us → ReadsScope q us found → ReadsBound q ts found
+reads_more_variables q ts us found h k steps c lt lc =
+    let less = marked_less Comma ts us h in
+    ap (λ o. if_some o (body_by (unit_within steps) ts) (scope_by (unit_within steps) q c)) h ∙ k steps c (omega (arith, lt, less)) (omega (arith, lc, less))
 
-module _ (ts us : List Token) (a b : Sentence) (op : Operator) (n room : ℕ) (balance : n + room ≡ 500) (kept : List ℕ) (tail : List Token) (fits : nesting n kept ((ts ++ marked (Binary op) ∷ us) ++ tail) ≤ 500) where
-  fits_apart : nesting n kept (ts ++ marked (Binary op) ∷ (us ++ tail)) ≤ 500
-  fits_apart = subst (λ xs. nesting n kept xs ≤ 500) (append_assoc ts (marked (Binary op) ∷ us) tail) fits
+pub reads_bound_body : (q : Quantor) (ts : List Token) (found : Option (Sentence × List Token)) → after_mark Comma ts ≡ None → ReadsBody ts found → ReadsBound q ts found
+reads_bound_body q ts found h k steps c lt lc = ap (λ o. if_some o (body_by (unit_within steps) ts) (scope_by (unit_within steps) q c)) h ∙ k steps lt
 
-  behind : (m : ℕ) → nesting m kept (marked (Binary op) ∷ (us ++ tail)) ≤ 500 → nesting (suc m) kept (us ++ tail) ≤ 500
-  behind m h = omega (arith, h)
+pub no_square : (ts : List Token) → after_mark (Close Square) ts ≡ None → ReadsBody ts None
+no_square ts h steps lt = ap (λ o. o >>= λ us. after_mark Colon us >>= λ vs. unit_within steps vs) h
 
-  -- two units and the operator between them
-  pair_read : (i : UnitRead ts a room kept (marked (Binary op) ∷ (us ++ tail))) (j : OperandRead us b i.left kept tail) (s : ℕ) → room ≤ s → (rest : List Token)
-      → formula_within (suc s) room ((ts ++ marked (Binary op) ∷ us) ++ rest) ≡ chain_by (unit_within (suc s)) s (Some op) (binary op a b, j.left, rest)
-  pair_read i j s le rest =
-      ap (formula_within (suc s) room) (append_assoc ts (marked (Binary op) ∷ us) rest)
-      ∙ ap (λ o. o >>= λ (u : Found). chain_by (unit_within (suc s)) (suc s) None u) (i.reads (suc s) (omega (arith, le)) (marked (Binary op) ∷ (us ++ rest)))
-      ∙ chain_step (unit_within (suc s)) s None (a, i.left, marked (Binary op) ∷ (us ++ rest)) (op, us ++ rest) (Some (binary op a b, j.left, rest)) refl
-      (ap (λ o. o >>= λ (u : Found). Some (binary op a u.0, u.1, u.2)) (j.reads (suc s) (omega (arith, le, i.within)) rest))
+pub no_colon : (ts us : List Token) → after_mark (Close Square) ts ≡ Some us → after_mark Colon us ≡ None → ReadsBody ts None
+no_colon ts us h k steps lt = ap (λ o. o >>= λ us. after_mark Colon us >>= λ vs. unit_within steps vs) h ∙ ap (λ o. o >>= λ vs. unit_within steps vs) k
 
-  implication_read : Units ts a → Units us b → FormulaRead (ts ++ marked (Binary op) ∷ us) (binary op a b) room kept tail
-  unfolding Units
-  implication_read u v =
-      let i = u n room balance kept (marked (Binary op) ∷ (us ++ tail)) fits_apart in
-      let j = operand_read us b v i.count i.left i.balance kept tail (behind i.count i.fits) in
-      record {
-        count = j.count;
-        left = j.left;
-        balance = j.balance;
-        fits = j.fits;
-        reads = λ steps lt rest stop. enough (λ s. formula_within s room ((ts ++ marked (Binary op) ∷ us) ++ rest) ≡ Some (binary op a b, j.left, rest)) room
-            (λ s le. pair_read i j s le rest ∙ chain_end (unit_within (suc s)) s (Some op) (binary op a b, j.left, rest) (omega (arith, le, i.within, j.within)) (no_next (Some op) rest stop)) steps lt;
-      }
+pub reads_body : (ts us vs : List Token) (found : Option (Sentence × List Token)) → after_mark (Close Square) ts ≡ Some us → after_mark Colon us ≡ Some vs → ReadsUnit vs found → ReadsBody ts found
+reads_body ts us vs found h k r steps lt =
+    ap (λ o. o >>= λ us. after_mark Colon us >>= λ vs. unit_within steps vs) h ∙ ap (λ o. o >>= λ vs. unit_within steps vs) k
+    ∙ r steps (omega (arith, lt, marked_less (Close Square) ts us h, marked_less Colon us vs k))
 
-  two_read : Units ts a → Units us b → ChainRead op (ts ++ marked (Binary op) ∷ us) (binary op a b) room kept tail
-  unfolding Units
-  two_read u v =
-      let i = u n room balance kept (marked (Binary op) ∷ (us ++ tail)) fits_apart in
-      let j = operand_read us b v i.count i.left i.balance kept tail (behind i.count i.fits) in
-      record {
-        count = j.count;
-        left = j.left;
-        balance = j.balance;
-        within = omega (arith, i.within, j.within);
-        fits = j.fits;
-        reads = λ steps lt rest. enough (λ s. (c : ℕ) × (j.left < c) × (formula_within s room ((ts ++ marked (Binary op) ∷ us) ++ rest) ≡ chain_by (unit_within s) c (Some op) (binary op a b, j.left, rest))) room
-            (λ s le. (s, omega (arith, le, i.within, j.within), pair_read i j s le rest)) steps lt;
-      }
+-- Chains
 
-  more_read : repeats op ≡ true → ChainRead op ts a room kept (marked (Binary op) ∷ (us ++ tail)) → Units us b → ChainRead op (ts ++ marked (Binary op) ∷ us) (binary op a b) room kept tail
-  unfolding Units
-  more_read again i v =
-      let j = operand_read us b v i.count i.left i.balance kept tail (behind i.count i.fits) in
-      record {
-        count = j.count;
-        left = j.left;
-        balance = j.balance;
-        within = omega (arith, i.within, j.within);
-        fits = j.fits;
-        reads = λ steps lt rest.
-            let r = i.reads steps lt (marked (Binary op) ∷ (us ++ rest)) in
-            let m = chain_more steps r.0 op a b i.left j.left (us ++ rest) rest r.1 again (j.reads steps (omega (arith, lt, i.within)) rest) j.within in
-            (m.0, m.1, ap (formula_within steps room) (append_assoc ts (marked (Binary op) ∷ us) rest) ∙ r.2 ∙ m.2);
-      }
+-- how a formula is read from some units of it on
+abbrev pub ReadsOn : Option Operator → Sentence → List Token → Option (Sentence × List Token) → Type 0
+ReadsOn by left ts found = (steps c : ℕ) → length ts < steps → length ts < c → chain_by (unit_within steps) c by left ts ≡ found
 
-single_read : (ts : List Token) (a : Sentence) (n room : ℕ) → n + room ≡ 500 → (kept : List ℕ) (tail : List Token) → nesting n kept (ts ++ tail) ≤ 500 → Units ts a → FormulaRead ts a room kept tail
-unfolding Units
-single_read ts a n room balance kept tail fits u =
-    let i = u n room balance kept tail fits in
-    record {
-      count = i.count;
-      left = i.left;
-      balance = i.balance;
-      fits = i.fits;
-      reads = λ steps lt rest stop. ap (λ o. o >>= λ (v : Found). chain_by (unit_within steps) steps None v) (i.reads steps lt rest)
-          ∙ chain_end (unit_within steps) steps None (a, i.left, rest) (omega (arith, lt, i.within)) (no_next None rest stop);
-    }
+pub on_no_unit : (by : Option Operator) (left : Sentence) (ts : List Token) (op : Operator) (us : List Token) → next_operator by ts ≡ Some (op, us) → length us < length ts → ReadsUnit us None → ReadsOn by left ts None
+on_no_unit by left ts op us next less h steps zero lt lc = absurd (omega (arith, lc))
+on_no_unit by left ts op us next less h steps (suc c) lt lc =
+    ap (λ o. if_some o (Some (left, ts)) (λ p. unit_within steps p.1 >>= λ b. chain_by (unit_within steps) c (Some p.0) (binary p.0 left b.0) b.1)) next
+    ∙ ap (λ o. o >>= λ (b : Sentence × List Token). chain_by (unit_within steps) c (Some op) (binary op left b.0) b.1) (h steps (omega (arith, lt, less)))
 
-chain_formula : (op : Operator) (ts : List Token) (a : Sentence) (room : ℕ) (kept : List ℕ) (tail : List Token) → ChainRead op ts a room kept tail → FormulaRead ts a room kept tail
-chain_formula op ts a room kept tail i =
-    record {
-      count = i.count;
-      left = i.left;
-      balance = i.balance;
-      fits = i.fits;
-      reads = λ steps lt rest stop.
-          let r = i.reads steps lt rest in r.2 ∙ chain_end (unit_within steps) r.0 (Some op) (a, i.left, rest) r.1 (no_next (Some op) rest stop);
-    }
+pub on_unit : (by : Option Operator) (left : Sentence) (ts : List Token) (op : Operator) (us : List Token) (b : Sentence) (rest : List Token) (found : Option (Sentence × List Token)) → next_operator by ts ≡ Some (op, us)
+    → length us < length ts → ReadsUnit us (Some (b, rest)) → ReadsOn (Some op) (binary op left b) rest found → ReadsOn by left ts found
+on_unit by left ts op us b rest found next less h k steps zero lt lc = absurd (omega (arith, lc))
+on_unit by left ts op us b rest found next less h k steps (suc c) lt lc =
+    let le = unit_less us b rest h in
+    chain_step steps c by left ts op us b rest next (h steps (omega (arith, lt, less))) ∙ k steps c (omega (arith, lt, less, le)) (omega (arith, lc, less, le))
 
-mutual
-  unit_read : {ts : List Token} {a : Sentence} → IsUnit ts a → Units ts a
-  unit_read (name_ w h) = name_read w h
-  unit_read (negation_ ts a u) = negation_read ts a (unit_read u)
-  unit_read (parentheses_ ts a f) = group_read ts a (λ n room balance kept tail fits. formula_read f n room balance kept tail fits)
+pub on_end : (by : Option Operator) (left : Sentence) (ts : List Token) → next_operator by ts ≡ None → ReadsOn by left ts (Some (left, ts))
+on_end by left ts h steps c lt lc = chain_end steps c by left ts (omega (arith, lc)) h
 
-  chain_read : {op : Operator} {ts : List Token} {a : Sentence} → IsChain op ts a → repeats op ≡ true → (n room : ℕ) → n + room ≡ 500 → (kept : List ℕ) (tail : List Token) → nesting n kept (ts ++ tail) ≤ 500
-      → ChainRead op ts a room kept tail
-  chain_read (two op ts us a b u v) again n room balance kept tail fits = two_read ts us a b op n room balance kept tail fits (unit_read u) (unit_read v)
-  chain_read (more op ts us a b c v) again n room balance kept tail fits =
-      more_read ts us a b op n room balance kept tail fits again
-      (chain_read c again n room balance kept (marked (Binary op) ∷ (us ++ tail)) (subst (λ xs. nesting n kept xs ≤ 500) (append_assoc ts (marked (Binary op) ∷ us) tail) fits)) (unit_read v)
+pub no_unit : (ts : List Token) → ReadsUnit ts None → ReadsFormula ts None
+no_unit ts h steps lt = ap (λ o. o >>= λ (a : Sentence × List Token). chain_by (unit_within steps) steps None a.0 a.1) (h steps lt)
 
-  pub formula_read : {ts : List Token} {a : Sentence} → IsFormula ts a → (n room : ℕ) → n + room ≡ 500 → (kept : List ℕ) (tail : List Token) → nesting n kept (ts ++ tail) ≤ 500 → FormulaRead ts a room kept tail
-  formula_read (unit_ ts a u) n room balance kept tail fits = single_read ts a n room balance kept tail fits (unit_read u)
-  formula_read (implication_ ts us a b u v) n room balance kept tail fits = implication_read ts us a b Implies n room balance kept tail fits (unit_read u) (unit_read v)
-  formula_read (conjunction_ ts a c) n room balance kept tail fits = chain_formula And ts a room kept tail (chain_read c refl n room balance kept tail fits)
-  formula_read (disjunction_ ts a c) n room balance kept tail fits = chain_formula Or ts a room kept tail (chain_read c refl n room balance kept tail fits)
+pub first_unit : (ts : List Token) (a : Sentence) (rest : List Token) (found : Option (Sentence × List Token)) → ReadsUnit ts (Some (a, rest)) → ReadsOn None a rest found → ReadsFormula ts found
+first_unit ts a rest found h k steps lt =
+    let le = unit_less ts a rest h in
+    ap (λ o. o >>= λ (a : Sentence × List Token). chain_by (unit_within steps) steps None a.0 a.1) (h steps lt) ∙ k steps steps (omega (arith, lt, le)) (omega (arith, lt, le))

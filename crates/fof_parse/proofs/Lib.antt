@@ -1,13 +1,19 @@
-pub mod Words
 pub mod Fronts
-pub mod Formulas
-pub mod Parts
+pub mod Forwards
+pub mod Backwards
+pub mod Endings
 pub mod Statements
-pub mod Names
-pub mod Interning
-pub mod Building
-pub mod Parsing
-pub mod Composing
-pub mod Leading
-mod Examples
+pub mod Texts
+pub mod Terms
+pub mod Raws
+pub mod Effects
+pub mod Formulas
+pub mod Means
+pub mod Found
+pub mod Deep
+pub mod Judging
+pub mod Adding
+pub mod Taking
+pub mod Pieces
 pub mod Once
+mod Examples

@@ -1,41 +1,30 @@
 -- One statement more.
-use Rattle.std.specs.Prelude.{◌≡◌, ◌⊎◌, List, [], ◌∷◌, ◌++◌, Some, None, IsSome}
+use Rattle.std.specs.Prelude.{◌≡◌, ◌||◌, ℕ, Bool, true, false, List, [], ◌∷◌, ◌++◌, Some, None, Option}
 use Rattle.fol_core.specs.Syntax.{PlainFormula}
-use Rattle.fof_parse.specs.declared.statement.Role.{Role}
-use Rattle.fof_parse.specs.declared.statement.Role.TheVariants.{Axiom, Conjecture}
-use Rattle.fof_parse.specs.Token.{Token}
-use Rattle.fof_parse.specs.Reading.{statement_at}
+use Rattle.fof_parse.specs.Token.{Placed}
 use Rattle.fof_parse.specs.Grammar.{Statement}
-use Rattle.fof_parse.specs.Problem.{PlainProblem, Label, InternsAll, predicates_in, IsPlain, label_of}
+use Rattle.fof_parse.specs.Problem.{PlainProblem, Label, role_of, is_conjecture, functions_in, predicates_in, InternsAll, IsPlain}
+use Rattle.fof_parse.specs.Refusal.{IsGood, first_of, behind_first}
 
--- where the statement's formula goes
-abbrev pub Places : Role → PlainFormula → PlainProblem → PlainProblem → Type 0
-Places Axiom a old new = (new.axioms ≡ old.axioms ++ a ∷ []) × (new.conjecture ≡ old.conjecture)
-Places Conjecture a old new = (new.axioms ≡ old.axioms) × (old.conjecture ≡ None) × (new.conjecture ≡ Some a)
+-- where a formula goes
+abbrev pub Places : Bool → PlainFormula → PlainProblem → PlainProblem → Type 0
+Places false a old new = (new.axioms ≡ old.axioms ++ a ∷ []) × (new.conjecture ≡ old.conjecture)
+Places true a old new = (new.axioms ≡ old.axioms) × (new.conjecture ≡ Some a)
 
--- A statement's formula goes to its place, over the same symbols.
-pub record Puts (old : PlainProblem) (of : Label) (a : PlainFormula) (new : PlainProblem) : Type 0 where
-  pub symbols : new.symbols ≡ old.symbols
-  pub labels : new.labels ≡ old.labels ++ of ∷ []
-  pub placed : Places of.role a old new
-
+-- The statement's symbols, its label and its formula are put into the problem.
 pub record Adds (old : PlainProblem) (st : Statement) (new : PlainProblem) : Type 0 where
-  pub functions : new.symbols.functions ≡ old.symbols.functions
+  pub functions : InternsAll old.symbols.functions (functions_in st.formula) new.symbols.functions
   pub predicates : InternsAll old.symbols.predicates (predicates_in st.formula) new.symbols.predicates
-  pub labels : new.labels ≡ old.labels ++ label_of st ∷ []
+  pub label : Label
+  pub name : label.name ≡ st.name
+  pub role : role_of st.role ≡ Some label.role
+  pub labels : new.labels ≡ old.labels ++ label ∷ []
   pub plain : PlainFormula
-  pub is_plain : IsPlain new.symbols.predicates st.formula plain
-  pub placed : Places st.role plain old new
+  pub is_plain : IsPlain new.symbols [] st.formula plain
+  pub placed : Places (is_conjecture st) plain old new
 
-pub record IsSecondConjecture (old : PlainProblem) (st : Statement) : Type 0 where
-  pub role : st.role ≡ Conjecture
-  pub other : IsSome old.conjecture
-
--- no statement stands in front of these tokens, or a second conjecture does
-abbrev pub EndsReading : List Token → PlainProblem → Type 0
-EndsReading ts problem = (statement_at ts ≡ None)
-    ⊎ ((st : Statement) × (rest : List Token) × (statement_at ts ≡ Some (st, rest)) × IsSecondConjecture problem st)
-
--- a statement stands in front of these tokens, and is added
-abbrev pub GoesOn : List Token → PlainProblem → List Token → PlainProblem → Type 0
-GoesOn ts problem rest next = (st : Statement) × (statement_at ts ≡ Some (st, rest)) × Adds problem st next
+-- The text begins with these statements, all without a fault, and this is left of it then.
+abbrev pub Leads : Bool → List Placed → List Statement → Bool → List Placed → Type 0
+Leads had ts [] had' rest = (had' ≡ had) × (rest ≡ ts)
+Leads had [] (st ∷ sts) had' rest = ⊥
+Leads had (t ∷ ts) (st ∷ sts) had' rest = IsGood had (first_of (t ∷ ts)) st × Leads (had || is_conjecture st) (behind_first (t ∷ ts)) sts had' rest

@@ -1,38 +1,62 @@
--- What the program finds in front of a text, and what it then knows of it.
-use Rattle.std.specs.Prelude.{◌≡◌, ℕ, ◌<◌, ◌≤◌, List, Option, Some}
+-- What the program finds in front of tokens.
+use Rattle.std.specs.Prelude.{◌≡◌, ℕ, ◌<◌, List, length, Option, Some}
+use Rattle.fol_core.specs.Symbol.{IsSymbolName}
 use Rattle.fol_core.specs.Syntax.{PlainFormula}
-use Rattle.fol_core.specs.Symbol.{Symbol}
-use Rattle.fof_parse.specs.declared.token.Operator.{Operator}
+use Rattle.fof_parse.specs.Building.{State, Built}
+use Rattle.fof_parse.specs.declared.token.Quantifier.{Quantifier as Quantor}
 use Rattle.fof_parse.specs.Token.{Token}
-use Rattle.fof_parse.specs.Grammar.{Sentence}
-use Rattle.fof_parse.specs.Reading.{Found, deeper, unit_within, formula_within}
-use Rattle.fof_parse.specs.Problem.{InternsAll, predicates_in, IsPlain, plain_binary}
+use Rattle.fof_parse.specs.Grammar.{Symbol, word, defined, Term, variable, numeral, object, applied, Terms, no_terms, terms, Sentence}
+use Rattle.fof_parse.specs.Reading.{Head, symbol_head, variable_head, numeral_head, object_head, arguments_by, terms_by, term_within, terms_within, body_by, bound_by, scope_by, unit_within, formula_within}
 
 -- What is read, by any number of steps that is enough.
-abbrev pub ReadsUnit : ℕ → List Token → Option Found → Type 0
-ReadsUnit room ts found = (steps : ℕ) → room < steps → unit_within steps room ts ≡ found
+abbrev pub ReadsTerm : List Token → Option (Term × List Token) → Type 0
+ReadsTerm ts found = (steps : ℕ) → length ts < steps → term_within steps ts ≡ found
 
-abbrev pub ReadsFormula : ℕ → List Token → Option Found → Type 0
-ReadsFormula room ts found = (steps : ℕ) → room < steps → formula_within steps room ts ≡ found
+abbrev pub ReadsArguments : Symbol → List Token → Option (Term × List Token) → Type 0
+ReadsArguments f ts found = (steps : ℕ) → length ts < steps → arguments_by (terms_within steps) f ts ≡ found
 
--- the unit behind a token that adds 1 to the count
-abbrev pub ReadsDeeper : ℕ → List Token → Option Found → Type 0
-ReadsDeeper room ts found = (steps : ℕ) → room ≤ steps → deeper (unit_within steps) room ts ≡ found
+abbrev pub ReadsTerms : List Token → Option (Terms × List Token) → Type 0
+ReadsTerms ts found = (steps c : ℕ) → length ts < steps → length ts < c → terms_by (term_within steps) c ts ≡ found
 
--- A sentence is read; its symbols are put into the table, and the formula is what it then says.
-pub record Parsed (Reads : Option Found → Type 0) (bound : ℕ) (old new : List Symbol) (a : PlainFormula) (room : ℕ) (rest : List Token) : Type 0 where
+abbrev pub ReadsUnit : List Token → Option (Sentence × List Token) → Type 0
+ReadsUnit ts found = (steps : ℕ) → length ts < steps → unit_within steps ts ≡ found
+
+abbrev pub ReadsScope : Quantor → List Token → Option (Sentence × List Token) → Type 0
+ReadsScope q ts found = (steps c : ℕ) → length ts < steps → length ts < c → scope_by (unit_within steps) q c ts ≡ found
+
+abbrev pub ReadsBody : List Token → Option (Sentence × List Token) → Type 0
+ReadsBody ts found = (steps : ℕ) → length ts < steps → body_by (unit_within steps) ts ≡ found
+
+abbrev pub ReadsBound : Quantor → List Token → Option (Sentence × List Token) → Type 0
+ReadsBound q ts found = (steps c : ℕ) → length ts < steps → length ts < c → bound_by (unit_within steps) (scope_by (unit_within steps) q c) ts ≡ found
+
+abbrev pub ReadsFormula : List Token → Option (Sentence × List Token) → Type 0
+ReadsFormula ts found = (steps : ℕ) → length ts < steps → formula_within steps ts ≡ found
+
+-- its words may be symbols' names
+abbrev pub IsProperSymbol : Symbol → Type 0
+IsProperSymbol (word w) = IsSymbolName w
+IsProperSymbol (defined w) = Unit {0}
+
+abbrev pub IsProperHead : Head → Type 0
+IsProperHead (symbol_head f) = IsProperSymbol f
+IsProperHead (variable_head w) = Unit {0}
+IsProperHead (numeral_head w) = Unit {0}
+IsProperHead (object_head w) = Unit {0}
+
+abbrev mutual
+  pub IsProperTerm : Term → Type 0
+  IsProperTerm (variable w) = Unit {0}
+  IsProperTerm (numeral w) = Unit {0}
+  IsProperTerm (object w) = Unit {0}
+  IsProperTerm (applied f us) = IsProperSymbol f × AreProperTerms us
+
+  pub AreProperTerms : Terms → Type 0
+  AreProperTerms no_terms = Unit {0}
+  AreProperTerms (terms u us) = IsProperTerm u × AreProperTerms us
+
+-- A part of a formula is read, and is built.
+pub record Parsed (Reads : Option (Sentence × List Token) → Type 0) (vs : List (List ℕ)) (old new : State) (a : PlainFormula) (rest : List Token) : Type 0 where
   pub sentence : Sentence
-  pub reads : Reads (Some (sentence, room, rest))
-  pub interned : InternsAll old (predicates_in sentence) new
-  pub is_plain : IsPlain new sentence a
-  pub below : room < bound
-
--- The unit behind an operator is read, and is joined to the formula on its left.
-pub record Joined (op : Operator) (left : PlainFormula) (ts : List Token) (bound : ℕ) (old new : List Symbol) (a : PlainFormula) (room : ℕ) (rest : List Token) : Type 0 where
-  pub sentence : Sentence
-  pub reads : ReadsDeeper bound ts (Some (sentence, room, rest))
-  pub interned : InternsAll old (predicates_in sentence) new
-  pub right : PlainFormula
-  pub is_plain : IsPlain new sentence right
-  pub is_joined : a ≡ plain_binary op left right
-  pub below : room < bound
+  pub reads : Reads (Some (sentence, rest))
+  pub built : Built vs old new sentence a

@@ -1,8 +1,36 @@
--- The problem of a text.
-use Rattle.std.specs.Prelude.{◌≡◌, ℕ, List}
-use Rattle.fof_parse.specs.Problem.{PlainProblem, IsProblemText}
+-- The problem of a text, and refused texts.
+use Rattle.std.specs.Prelude.{◌≡◌, ◌≤◌, ℕ, false, List, length, map}
+use Rattle.fof_lex.specs.Tokens.{Lexes, LexFails}
+use Rattle.fof_lex.specs.declared.token.Token.{Token as LexToken}
+use Rattle.fof_parse.specs.declared.refusal.BadKind.{BadKind}
+use Rattle.fof_parse.specs.Token.{placed}
+use Rattle.fof_parse.specs.Grammar.{Statement}
+use Rattle.fof_parse.specs.Problem.{PlainProblem, IsProblemOf}
+use Rattle.fof_parse.specs.Refusal.{AreGood, FirstBad}
+
+abbrev pub most_bytes : ℕ
+most_bytes = 16777216
+
+-- The text is this problem.
+pub record IsProblemText (bytes : List ℕ) (problem : PlainProblem) : Type 0 where
+  pub within : length bytes ≤ most_bytes
+  pub tokens : List LexToken
+  pub lexed : Lexes 0 bytes tokens
+  pub statements : List Statement
+  pub good : AreGood false (map (placed bytes) tokens) statements
+  pub meaning : IsProblemOf statements problem
 
 -- The text is this problem, and no other one.
 pub record IsTheProblem (bytes : List ℕ) (problem : PlainProblem) : Type 0 where
   pub is_text : IsProblemText bytes problem
   pub only : (other : PlainProblem) → IsProblemText bytes other → other ≡ problem
+
+pub record IsBadText (bytes : List ℕ) (at : ℕ) (k : BadKind) : Type 0 where
+  pub within : length bytes ≤ most_bytes
+  pub tokens : List LexToken
+  pub lexed : Lexes 0 bytes tokens
+  pub bad : FirstBad false (map (placed bytes) tokens) at k
+
+pub record IsNoText (bytes : List ℕ) (at : ℕ) : Type 0 where
+  pub within : length bytes ≤ most_bytes
+  pub fails : LexFails 0 bytes at

@@ -1,50 +1,84 @@
 //! Reading formulas from the left.
 //!
-//! A formula may be deep to the left without a limit. A chain is read in a loop, and only `~`, `(` and the unit behind
-//! an operator are read by calls. Each of these adds 1 to the nesting count, which ends the reading where it would pass
-//! its limit. `room` is how much the count can still grow.
+//! A formula may be deep to the left without a limit: a chain is read in a loop. What is read by calls, `~`, quantifiers and
+//! their variables, `(`, and the unit behind an operator, adds to the nesting count of the statement, which was tested before.
 
-ghost use Rattle.std.specs.Prelude.{◌≡◌, ◌+◌, ◌∷◌, None, MatchOption, IfOk, option_map};
+ghost use Rattle.std.specs.Prelude.{◌≡◌, ◌+◌, ◌<◌, None, Some, length, MatchOption, IfOk, IfSome, option_map};
 ghost use Rattle.fol_core.specs.View.{formula_of};
-ghost use Rattle.fol_core.specs.Symbol.{IsSymbolName, Interns};
-ghost use Rattle.fof_parse.specs.Token.{tokens, marked};
-ghost use Rattle.fof_parse.specs.Problem.{proposition, IsAtom, plain_binary};
-ghost use Rattle.fof_parse.specs.Reading.{start_at, repeats, can_join, operator_at, next_operator};
-ghost use Rattle.fof_parse.specs.Views.{start_of};
-ghost use Rattle.fof_parse.specs.Parsing.{ReadsUnit, ReadsFormula, ReadsDeeper, Parsed, Joined};
+ghost use Rattle.fol_core.specs.Syntax.{not};
+ghost use Rattle.fof_parse.specs.Text.{AreIn, from};
+ghost use Rattle.fof_parse.specs.Reading.{one_token, negation_lead, group_lead, quantifier_lead, lead_of, equality_of, operator_of, variable_of, repeats, can_join, next_operator};
+ghost use Rattle.fof_parse.specs.Problem.{plain_binary, plain_quantified};
+ghost use Rattle.fof_parse.specs.Views.{lead_view};
+ghost use Rattle.fof_parse.specs.Parsing.{ReadsUnit, ReadsBound, ReadsScope, ReadsBody, ReadsFormula, Parsed};
+ghost use Rattle.fof_parse.specs.Building.{names, state_of};
 
-use crate::statement::after_mark;
-use crate::token::{Mark, Operator, Token, is_lower_word, next_token};
-use containers::{Boxed, Items};
-use fol_core::{Formula, Symbols};
+use crate::atom::{atom, equation};
+use crate::build::Draft;
+use crate::term::{Raw, TermFront, term_at};
+use crate::text::{Text, after_mark, token_at};
+use crate::token::{Bracket, Equality, Mark, Operator, Quantifier, Token};
+use containers::Boxed;
+use fol_core::Formula;
 use std::alloc::{AllocError, Global};
 
-/// A formula that stands in front of a text.
+/// A formula that stands at a place, and the place behind it.
 #[derive(Drop)]
-pub struct Front<'a> {
+pub struct Front {
     pub formula: Formula,
-    /// How much the nesting count can still grow behind it.
-    pub room: u32,
-    /// What stands behind it.
-    pub rest: &'a [u8],
+    pub next: usize,
 }
 
-/// What a unit begins with.
+/// What a unit begins with that begins with no term.
 #[derive(Clone, Copy, Debug)]
-enum Start<'a> {
-    Name(&'a [u8]),
+enum Lead {
     Negation,
     Group,
+    Quantifier(Quantifier),
 }
 
-/// What the unit in front begins with, and what stands behind that.
-fn start_at(bytes: &[u8]) -> Option<(Start<'_>, &[u8])>
-    ensures { option_map (λ p. (start_of p.0, tokens p.1.now)) result ≡ start_at (tokens bytes.now) }
+fn lead_at(text: &Text<'_>, at: usize) -> Option<Lead>
+    requires { AreIn text.now }
+    ensures lead { option_map (λ l. (lead_view l, from text.now (at + 1))) result ≡ one_token lead_of (from text.now at) }
+    ensures within { IfSome result (λ l. at < length text.now.tokens.now) }
 {
-    match next_token(bytes)? {
-        (Token::Word(word), rest) if is_lower_word(word) => Some((Start::Name(word), rest)),
-        (Token::Marked(Mark::Not), rest) => Some((Start::Negation, rest)),
-        (Token::Marked(Mark::Open), rest) => Some((Start::Group, rest)),
+    match token_at(text, at)? {
+        Token::Marked(Mark::Not) => Some(Lead::Negation),
+        Token::Marked(Mark::Open(Bracket::Round)) => Some(Lead::Group),
+        Token::Marked(Mark::Quantifier(q)) => Some(Lead::Quantifier(q)),
+        _ => None,
+    }
+}
+
+fn equality_at(text: &Text<'_>, at: usize) -> Option<Equality>
+    requires { AreIn text.now }
+    ensures equality { option_map (λ e. (e, from text.now (at + 1))) result ≡ one_token equality_of (from text.now at) }
+    ensures within { IfSome result (λ e. at < length text.now.tokens.now) }
+{
+    match token_at(text, at)? {
+        Token::Marked(Mark::Equality(e)) => Some(e),
+        _ => None,
+    }
+}
+
+fn operator_at(text: &Text<'_>, at: usize) -> Option<Operator>
+    requires { AreIn text.now }
+    ensures operator { option_map (λ op. (op, from text.now (at + 1))) result ≡ one_token operator_of (from text.now at) }
+    ensures within { IfSome result (λ op. at < length text.now.tokens.now) }
+{
+    match token_at(text, at)? {
+        Token::Marked(Mark::Binary(op)) => Some(op),
+        _ => None,
+    }
+}
+
+fn variable_at<'a>(text: &Text<'a>, at: usize) -> Option<&'a [u8]>
+    requires { AreIn text.now }
+    ensures variable { option_map (λ w. (w.now, from text.now (at + 1))) result ≡ one_token variable_of (from text.now at) }
+    ensures within { IfSome result (λ w. at < length text.now.tokens.now) }
+{
+    match token_at(text, at)? {
+        Token::Upper(word) => Some(word),
         _ => None,
     }
 }
@@ -53,10 +87,7 @@ fn start_at(bytes: &[u8]) -> Option<(Start<'_>, &[u8])>
 fn repeats(op: Operator) -> bool
     ensures { result ≡ repeats op }
 {
-    match op {
-        Operator::Implies => false,
-        Operator::And | Operator::Or => true,
-    }
+    matches!(op, Operator::And | Operator::Or)
 }
 
 /// Whether a formula goes on with the operator, whose units so far are joined by another, or which is one unit so far.
@@ -69,26 +100,20 @@ fn can_join(by: Option<Operator>, op: Operator) -> bool
     }
 }
 
-/// The operator in front, and what stands behind it.
-fn operator_at(bytes: &[u8]) -> Option<(Operator, &[u8])>
-    ensures { option_map (λ p. (p.0, tokens p.1.now)) result ≡ operator_at (tokens bytes.now) }
+/// The operator with which a formula goes on.
+fn next_operator(text: &Text<'_>, by: Option<Operator>, at: usize) -> Option<Operator>
+    requires { AreIn text.now }
+    ensures operator { option_map (λ op. (op, from text.now (at + 1))) result ≡ next_operator by (from text.now at) }
+    ensures within { IfSome result (λ op. at < length text.now.tokens.now) }
 {
-    match next_token(bytes)? {
-        (Token::Marked(Mark::Binary(op)), rest) => Some((op, rest)),
-        _ => None,
-    }
+    let op = operator_at(text, at)?;
+    if can_join(by, op) { Some(op) } else { None }
 }
 
-/// The operator with which a formula goes on, and what stands behind it.
-fn next_operator(by: Option<Operator>, bytes: &[u8]) -> Option<(Operator, &[u8])>
-    ensures { option_map (λ p. (p.0, tokens p.1.now)) result ≡ next_operator by (tokens bytes.now) }
+fn negated(alloc: Global, formula: Formula) -> Result<Formula, AllocError>
+    ensures { IfOk result (λ f. formula_of f ≡ not (formula_of formula)) }
 {
-    let (op, rest) = operator_at(bytes)?;
-    if can_join(by, op) {
-        Some((op, rest))
-    } else {
-        None
-    }
+    Ok(Formula::Not(Boxed::new(alloc, formula)?))
 }
 
 /// Both formulas joined by the operator.
@@ -97,173 +122,249 @@ fn joined(alloc: Global, op: Operator, left: Formula, right: Formula) -> Result<
 {
     let left = Boxed::new(alloc, left)?;
     let right = Boxed::new(alloc, right)?;
-    Ok(match op {
-        Operator::Implies => Formula::Imp(left, right),
-        Operator::And => Formula::And(left, right),
-        Operator::Or => Formula::Or(left, right),
+    match op {
+        Operator::Implies => Ok(Formula::Imp(left, right)),
+        Operator::ImpliedBy => Ok(Formula::Imp(right, left)),
+        Operator::Equivalent => Ok(Formula::Iff(left, right)),
+        Operator::NotEquivalent => negated(alloc, Formula::Iff(left, right)),
+        Operator::NotAnd => negated(alloc, Formula::And(left, right)),
+        Operator::NotOr => negated(alloc, Formula::Or(left, right)),
+        Operator::And => Ok(Formula::And(left, right)),
+        Operator::Or => Ok(Formula::Or(left, right)),
+    }
+}
+
+fn quantified(alloc: Global, quantifier: Quantifier, body: Formula) -> Result<Formula, AllocError>
+    ensures { IfOk result (λ f. formula_of f ≡ plain_quantified quantifier (formula_of body)) }
+{
+    let body = Boxed::new(alloc, body)?;
+    Ok(match quantifier {
+        Quantifier::All => Formula::All(body),
+        Quantifier::Some => Formula::Ex(body),
     })
 }
 
-/// A word as an atom, whose symbol is put into the table where it is new.
-fn atom(alloc: Global, symbols: &mut Symbols, word: &[u8]) -> Result<Formula, AllocError>
-    requires { IsSymbolName word.now }
-    ensures predicates { IfOk result (λ f. Interns symbols.old.predicates (proposition word.now) symbols.new.predicates) }
-    ensures functions { symbols.new.functions ≡ symbols.old.functions }
-    ensures atom { IfOk result (λ f. IsAtom symbols.new.predicates word.now (formula_of f)) }
-{
-    let number = symbols.intern_predicate(word, 0)?;
-    Ok(Formula::Atom(number, Items::new(alloc)))
-}
-
-/// The unit in front, or None where none stands there.
-#[cycle(reading)]
-fn unit<'a>(
+/// The unit at a place that begins with a term: an atom or an equation.
+fn atomic_at<'a>(
     alloc: Global,
-    symbols: &mut Symbols,
-    bytes: &'a [u8],
-    room: u32,
-) -> Result<Option<Front<'a>>, AllocError>
-    ensures functions { symbols.new.functions ≡ symbols.old.functions }
-    ensures unit { IfOk result (λ front. MatchOption front
-        (ReadsUnit room (tokens bytes.now) None)
-        (λ u. Parsed (ReadsUnit room (tokens bytes.now)) (room + 1) symbols.old.predicates symbols.new.predicates (formula_of u.formula) u.room (tokens u.rest.now))) }
+    text: &Text<'a>,
+    draft: &mut Draft,
+    scope: &[&[u8]],
+    at: usize,
+) -> Result<Option<Front>, AllocError>
+    requires text { AreIn text.now }
+    requires lead { one_token lead_of (from text.now at) ≡ None }
+    ensures { IfOk result (λ front. MatchOption front
+        (ReadsUnit (from text.now at) None)
+        (λ f. Parsed (ReadsUnit (from text.now at)) (names scope.now) (state_of draft.old) (state_of draft.new) (formula_of f.formula) (from text.now f.next) × (at < f.next))) }
 {
-    match start_at(bytes) {
-        None => Ok(None),
-        Some((Start::Name(word), rest)) => {
-            let formula = atom(alloc, symbols, word)?;
-            Ok(Some(Front {
-                formula,
-                room,
-                rest,
-            }))
+    let Some(TermFront { term: left, next }) = term_at(alloc, text, at)? else {
+        return Ok(None);
+    };
+    if let Some(_equality) = equality_at(text, next) {
+        let Some(TermFront { term: right, next }) = term_at(alloc, text, next + 1)? else {
+            return Ok(None);
+        };
+        let formula = equation(alloc, draft, scope, &left, &right)?;
+        return Ok(Some(Front { formula, next }));
+    }
+    match &left {
+        Raw::Applied(symbol, arguments) => {
+            let formula = atom(alloc, draft, scope, *symbol, arguments)?;
+            Ok(Some(Front { formula, next }))
         }
-        Some((Start::Negation, rest)) => negation(alloc, symbols, rest, room),
-        Some((Start::Group, rest)) => group(alloc, symbols, rest, room),
+        Raw::Variable(_word) => Ok(None),
+        Raw::Number(_word) => Ok(None),
+        Raw::Distinct(_word) => Ok(None),
     }
 }
 
-/// The unit behind a token that adds 1 to the nesting count.
+/// The unit at a place, or None where none stands there. `scope` has the variables in scope, the outermost quantifier's first.
 #[cycle(reading)]
-fn deeper_unit<'a>(
+fn unit_at<'a>(
     alloc: Global,
-    symbols: &mut Symbols,
-    bytes: &'a [u8],
-    room: u32,
-) -> Result<Option<Front<'a>>, AllocError>
-    ensures functions { symbols.new.functions ≡ symbols.old.functions }
+    text: &Text<'a>,
+    draft: &mut Draft,
+    scope: &mut Vec<&'a [u8]>,
+    at: usize,
+) -> Result<Option<Front>, AllocError>
+    requires { AreIn text.now }
+    ensures scope { IfOk result (λ front. scope.new.items ≡ scope.old.items) }
     ensures unit { IfOk result (λ front. MatchOption front
-        (ReadsDeeper room (tokens bytes.now) None)
-        (λ u. Parsed (ReadsDeeper room (tokens bytes.now)) room symbols.old.predicates symbols.new.predicates (formula_of u.formula) u.room (tokens u.rest.now))) }
+        (ReadsUnit (from text.now at) None)
+        (λ f. Parsed (ReadsUnit (from text.now at)) (names scope.old.items) (state_of draft.old) (state_of draft.new) (formula_of f.formula) (from text.now f.next) × (at < f.next))) }
 {
-    match room.checked_sub(1) {
+    match lead_at(text, at) {
+        None => atomic_at(alloc, text, draft, scope.as_slice(), at),
+        Some(Lead::Negation) => negation_at(alloc, text, draft, scope, at),
+        Some(Lead::Group) => group_at(alloc, text, draft, scope, at),
+        Some(Lead::Quantifier(q)) => quantified_at(alloc, text, draft, scope, q, at),
+    }
+}
+
+/// The unit whose `~` stands at a place.
+#[cycle(reading)]
+fn negation_at<'a>(
+    alloc: Global,
+    text: &Text<'a>,
+    draft: &mut Draft,
+    scope: &mut Vec<&'a [u8]>,
+    at: usize,
+) -> Result<Option<Front>, AllocError>
+    requires text { AreIn text.now }
+    requires lead { one_token lead_of (from text.now at) ≡ Some (negation_lead, from text.now (at + 1)) }
+    requires within { at < length text.now.tokens.now }
+    ensures scope { IfOk result (λ front. scope.new.items ≡ scope.old.items) }
+    ensures unit { IfOk result (λ front. MatchOption front
+        (ReadsUnit (from text.now at) None)
+        (λ f. Parsed (ReadsUnit (from text.now at)) (names scope.old.items) (state_of draft.old) (state_of draft.new) (formula_of f.formula) (from text.now f.next) × (at < f.next))) }
+{
+    let Some(Front { formula, next }) = unit_at(alloc, text, draft, scope, at + 1)? else {
+        return Ok(None);
+    };
+    let formula = negated(alloc, formula)?;
+    Ok(Some(Front { formula, next }))
+}
+
+/// The formula in parentheses whose `(` stands at a place.
+#[cycle(reading)]
+fn group_at<'a>(
+    alloc: Global,
+    text: &Text<'a>,
+    draft: &mut Draft,
+    scope: &mut Vec<&'a [u8]>,
+    at: usize,
+) -> Result<Option<Front>, AllocError>
+    requires text { AreIn text.now }
+    requires lead { one_token lead_of (from text.now at) ≡ Some (group_lead, from text.now (at + 1)) }
+    requires within { at < length text.now.tokens.now }
+    ensures scope { IfOk result (λ front. scope.new.items ≡ scope.old.items) }
+    ensures unit { IfOk result (λ front. MatchOption front
+        (ReadsUnit (from text.now at) None)
+        (λ f. Parsed (ReadsUnit (from text.now at)) (names scope.old.items) (state_of draft.old) (state_of draft.new) (formula_of f.formula) (from text.now f.next) × (at < f.next))) }
+{
+    let Some(Front { formula, next }) = formula_at(alloc, text, draft, scope, at + 1)? else {
+        return Ok(None);
+    };
+    match after_mark(text, next, Mark::Close(Bracket::Round)) {
         None => Ok(None),
-        Some(less) => unit(alloc, symbols, bytes, less),
+        Some(next) => Ok(Some(Front { formula, next })),
     }
 }
 
-/// The negation whose `~` stands in front of the text.
+/// The unit whose quantifier stands at a place.
 #[cycle(reading)]
-fn negation<'a>(
+fn quantified_at<'a>(
     alloc: Global,
-    symbols: &mut Symbols,
-    bytes: &'a [u8],
-    room: u32,
-) -> Result<Option<Front<'a>>, AllocError>
-    ensures functions { symbols.new.functions ≡ symbols.old.functions }
+    text: &Text<'a>,
+    draft: &mut Draft,
+    scope: &mut Vec<&'a [u8]>,
+    quantifier: Quantifier,
+    at: usize,
+) -> Result<Option<Front>, AllocError>
+    requires text { AreIn text.now }
+    requires lead { one_token lead_of (from text.now at) ≡ Some (quantifier_lead quantifier, from text.now (at + 1)) }
+    requires within { at < length text.now.tokens.now }
+    ensures scope { IfOk result (λ front. scope.new.items ≡ scope.old.items) }
     ensures unit { IfOk result (λ front. MatchOption front
-        (ReadsUnit room (marked Mark.Not ∷ tokens bytes.now) None)
-        (λ u. Parsed (ReadsUnit room (marked Mark.Not ∷ tokens bytes.now)) (room + 1) symbols.old.predicates symbols.new.predicates (formula_of u.formula) u.room (tokens u.rest.now))) }
+        (ReadsUnit (from text.now at) None)
+        (λ f. Parsed (ReadsUnit (from text.now at)) (names scope.old.items) (state_of draft.old) (state_of draft.new) (formula_of f.formula) (from text.now f.next) × (at < f.next))) }
 {
-    let Some(inner) = deeper_unit(alloc, symbols, bytes, room)? else {
+    let Some(inner) = after_mark(text, at + 1, Mark::Open(Bracket::Square)) else {
         return Ok(None);
     };
-    Ok(Some(Front {
-        formula: Formula::Not(Boxed::new(alloc, inner.formula)?),
-        room: inner.room,
-        rest: inner.rest,
-    }))
+    let Some(front) = scope_at(alloc, text, draft, scope, quantifier, inner)? else {
+        return Ok(None);
+    };
+    Ok(Some(front))
 }
 
-/// The formula in parentheses whose `(` stands in front of the text.
+/// The quantifier's variables at a place, and the unit behind them.
 #[cycle(reading)]
-fn group<'a>(
+fn scope_at<'a>(
     alloc: Global,
-    symbols: &mut Symbols,
-    bytes: &'a [u8],
-    room: u32,
-) -> Result<Option<Front<'a>>, AllocError>
-    ensures functions { symbols.new.functions ≡ symbols.old.functions }
+    text: &Text<'a>,
+    draft: &mut Draft,
+    scope: &mut Vec<&'a [u8]>,
+    quantifier: Quantifier,
+    at: usize,
+) -> Result<Option<Front>, AllocError>
+    requires { AreIn text.now }
+    ensures scope { IfOk result (λ front. scope.new.items ≡ scope.old.items) }
     ensures unit { IfOk result (λ front. MatchOption front
-        (ReadsUnit room (marked Mark.Open ∷ tokens bytes.now) None)
-        (λ u. Parsed (ReadsUnit room (marked Mark.Open ∷ tokens bytes.now)) (room + 1) symbols.old.predicates symbols.new.predicates (formula_of u.formula) u.room (tokens u.rest.now))) }
+        (ReadsScope quantifier (from text.now at) None)
+        (λ f. Parsed (ReadsScope quantifier (from text.now at)) (names scope.old.items) (state_of draft.old) (state_of draft.new) (formula_of f.formula) (from text.now f.next) × (at < f.next))) }
 {
-    let Some(less) = room.checked_sub(1) else {
+    let Some(name) = variable_at(text, at) else {
         return Ok(None);
     };
-    let Some(inner) = formula(alloc, symbols, bytes, less)? else {
+    scope.push(name)?;
+    let bound = bound_at(alloc, text, draft, scope, quantifier, at + 1)?;
+    scope.pop();
+    let Some(Front { formula, next }) = bound else {
         return Ok(None);
     };
-    match after_mark(inner.rest, Mark::Close) {
+    let formula = quantified(alloc, quantifier, formula)?;
+    Ok(Some(Front { formula, next }))
+}
+
+/// What stands behind a variable of a quantifier: further variables with the unit behind them, or the unit.
+#[cycle(reading)]
+fn bound_at<'a>(
+    alloc: Global,
+    text: &Text<'a>,
+    draft: &mut Draft,
+    scope: &mut Vec<&'a [u8]>,
+    quantifier: Quantifier,
+    at: usize,
+) -> Result<Option<Front>, AllocError>
+    requires { AreIn text.now }
+    ensures scope { IfOk result (λ front. scope.new.items ≡ scope.old.items) }
+    ensures unit { IfOk result (λ front. MatchOption front
+        (ReadsBound quantifier (from text.now at) None)
+        (λ f. Parsed (ReadsBound quantifier (from text.now at)) (names scope.old.items) (state_of draft.old) (state_of draft.new) (formula_of f.formula) (from text.now f.next) × (at < f.next))) }
+{
+    if let Some(more) = after_mark(text, at, Mark::Comma) {
+        return scope_at(alloc, text, draft, scope, quantifier, more);
+    }
+    let Some(behind) = after_mark(text, at, Mark::Close(Bracket::Square)) else {
+        return Ok(None);
+    };
+    match after_mark(text, behind, Mark::Colon) {
         None => Ok(None),
-        Some(rest) => Ok(Some(Front {
-            room,
-            rest,
-            ..inner
-        })),
+        Some(body) => unit_at(alloc, text, draft, scope, body),
     }
 }
 
-/// The formula on the left joined to the unit behind the operator, which the text begins with.
+/// The longest formula at a place, or None where none stands there.
 #[cycle(reading)]
-fn with_operand<'a>(
+pub fn formula_at<'a>(
     alloc: Global,
-    symbols: &mut Symbols,
-    op: Operator,
-    left: Front<'a>,
-    bytes: &'a [u8],
-) -> Result<Option<Front<'a>>, AllocError>
-    ensures functions { symbols.new.functions ≡ symbols.old.functions }
-    ensures joined { IfOk result (λ front. MatchOption front
-        (ReadsDeeper left.entry.room (tokens bytes.now) None)
-        (λ u. Joined op (formula_of left.entry.formula) (tokens bytes.now) left.entry.room symbols.old.predicates symbols.new.predicates (formula_of u.formula) u.room (tokens u.rest.now))) }
-{
-    let Some(right) = deeper_unit(alloc, symbols, bytes, left.room)? else {
-        return Ok(None);
-    };
-    Ok(Some(Front {
-        formula: joined(alloc, op, left.formula, right.formula)?,
-        room: right.room,
-        rest: right.rest,
-    }))
-}
-
-/// The longest formula in front, or None where none stands there.
-#[cycle(reading)]
-pub fn formula<'a>(
-    alloc: Global,
-    symbols: &mut Symbols,
-    bytes: &'a [u8],
-    room: u32,
-) -> Result<Option<Front<'a>>, AllocError>
-    ensures functions { symbols.new.functions ≡ symbols.old.functions }
+    text: &Text<'a>,
+    draft: &mut Draft,
+    scope: &mut Vec<&'a [u8]>,
+    at: usize,
+) -> Result<Option<Front>, AllocError>
+    requires { AreIn text.now }
+    ensures scope { IfOk result (λ front. scope.new.items ≡ scope.old.items) }
     ensures formula { IfOk result (λ front. MatchOption front
-        (ReadsFormula room (tokens bytes.now) None)
-        (λ u. Parsed (ReadsFormula room (tokens bytes.now)) (room + 1) symbols.old.predicates symbols.new.predicates (formula_of u.formula) u.room (tokens u.rest.now))) }
+        (ReadsFormula (from text.now at) None)
+        (λ f. Parsed (ReadsFormula (from text.now at)) (names scope.old.items) (state_of draft.old) (state_of draft.new) (formula_of f.formula) (from text.now f.next) × (at < f.next))) }
 {
-    let Some(first) = unit(alloc, symbols, bytes, room)? else {
+    let Some(first) = unit_at(alloc, text, draft, scope, at)? else {
         return Ok(None);
     };
     let mut front = first;
     let mut by = None;
-    while let Some((op, rest)) = next_operator(by, front.rest) {
-        match with_operand(alloc, symbols, op, front, rest)? {
-            None => return Ok(None),
-            Some(next) => {
-                front = next;
-                by = Some(op);
-            }
-        }
+    while let Some(op) = next_operator(text, by, front.next) {
+        let Some(right) = unit_at(alloc, text, draft, scope, front.next + 1)? else {
+            return Ok(None);
+        };
+        front = Front {
+            formula: joined(alloc, op, front.formula, right.formula)?,
+            next: right.next,
+        };
+        by = Some(op);
     }
     Ok(Some(front))
 }

@@ -1,22 +1,22 @@
 //! A problem: its symbols, its statements and their formulas.
 
-ghost use Rattle.std.specs.Prelude.{◌≡◌, [], None, MatchOption, IfOk, IsSome};
+ghost use Rattle.std.specs.Prelude.{◌≡◌, MatchResult, IfOk};
 ghost use Rattle.fol_core.specs.Syntax.{not};
 ghost use Rattle.fol_core.specs.View.{formula_of, formulas_of};
-ghost use Rattle.fof_parse.specs.Token.{tokens};
-ghost use Rattle.fof_parse.specs.Problem.{Start, empty_problem, label};
-ghost use Rattle.fof_parse.specs.ProblemView.{plain_problem};
-ghost use Rattle.fof_parse.specs.Adding.{Puts, EndsReading, GoesOn};
+ghost use Rattle.fof_parse.specs.Text.{AreAllIn, tokens_in};
+ghost use Rattle.fof_parse.specs.Problem.{Start, empty_problem};
+ghost use Rattle.fof_parse.specs.ProblemView.{plain_problem, plain_label};
+ghost use Rattle.fof_parse.specs.Refusal.{IsBad};
+ghost use Rattle.fof_parse.specs.Chunks.{has_conjecture, Puts, Takes};
 
-use crate::formula::formula;
-use crate::statement::{Role, ending_at, heading_at};
+use crate::build::Draft;
+use crate::refusal::BadKind;
+use crate::statement::{Role, name_bytes};
+use crate::text::Text;
+use crate::verdict::{Good, verdict};
 use containers::{Boxed, Items};
 use fol_core::{Formula, Formulas, Symbols};
 use std::alloc::{AllocError, Global};
-
-/// How large the nesting count of a statement may become. It begins at 0; `(`, `~` and the operators add 1, and `)` sets
-/// it back to what it was before its `(`.
-pub const MAX_NESTING: u32 = 500;
 
 /// A statement's name and what it is for.
 #[derive(Drop)]
@@ -49,73 +49,67 @@ pub(crate) fn empty_problem(alloc: Global) -> Problem
     }
 }
 
-/// The problem with the formula of a statement put to its place. None where the statement is a second conjecture.
+/// The problem with a further statement, whose formula is put to its place.
 fn with_formula(
-    alloc: Global,
     problem: Problem,
-    name: &[u8],
-    role: Role,
+    statement: Statement,
     formula: Formula,
-) -> Result<Option<Problem>, AllocError>
-    ensures { IfOk result (λ next. MatchOption next
-        ((role ≡ Role.Conjecture) × IsSome (plain_problem problem).conjecture)
-        (λ p. Puts (plain_problem problem) (label name.now role) (formula_of formula) (plain_problem p))) }
+) -> Result<Problem, AllocError>
+    ensures { IfOk result (λ next. Puts (plain_problem problem) (plain_label statement) (formula_of formula) (plain_problem next)) }
 {
-    let Problem {
-        symbols,
-        mut statements,
-        mut axioms,
-        conjecture,
-    } = problem;
-    let name = Items::from_slice(alloc, name)?;
-    statements.push(Statement { name, role })?;
-    match role {
-        Role::Axiom => {
-            axioms.push(formula)?;
-            Ok(Some(Problem {
-                symbols,
-                statements,
-                axioms,
-                conjecture,
-            }))
-        }
-        Role::Conjecture => match conjecture {
-            Some(_) => Ok(None),
-            None => Ok(Some(Problem {
-                symbols,
-                statements,
-                axioms,
-                conjecture: Some(formula),
-            })),
-        },
+    let role = statement.role;
+    let mut problem = problem;
+    problem.statements.push(statement)?;
+    if role == Role::Conjecture {
+        problem.conjecture = Some(formula);
+    } else {
+        problem.axioms.push(formula)?;
     }
+    Ok(problem)
 }
 
-/// The problem with the statement in front of the text, and what stands behind the statement. None where no
-/// statement stands there, or a second conjecture.
+/// The problem with the statement that the tokens are, or the statement's first fault.
 pub(crate) fn with_statement(
     alloc: Global,
     problem: Problem,
     bytes: &[u8],
-) -> Result<Option<(Problem, &[u8])>, AllocError>
-    ensures { IfOk result (λ next. MatchOption next
-        (EndsReading (tokens bytes.now) (plain_problem problem))
-        (λ p. GoesOn (tokens bytes.now) (plain_problem problem) (tokens p.1.now) (plain_problem p.0))) }
+    tokens: &[fof_lex::Token],
+) -> Result<Result<Problem, BadKind>, AllocError>
+    requires { AreAllIn bytes.now tokens.now }
+    ensures { IfOk result (λ next. MatchResult next
+        (λ p. Takes (plain_problem problem) (tokens_in bytes.now tokens.now) (plain_problem p))
+        (λ k. IsBad (has_conjecture (plain_problem problem)) (tokens_in bytes.now tokens.now) k)) }
 {
-    let Some(((name, role), body)) = heading_at(bytes) else {
-        return Ok(None);
+    let Problem {
+        symbols,
+        statements,
+        axioms,
+        conjecture,
+    } = problem;
+    let mut draft = Draft {
+        symbols,
+        fault: None,
+        is_closed: true,
     };
-    let mut problem = problem;
-    // The `(` behind `fof` counts 1.
-    let Some(front) = formula(alloc, &mut problem.symbols, body, MAX_NESTING - 1)? else {
-        return Ok(None);
-    };
-    let Some(rest) = ending_at(front.rest) else {
-        return Ok(None);
-    };
-    match with_formula(alloc, problem, name, role, front.formula)? {
-        None => Ok(None),
-        Some(next) => Ok(Some((next, rest))),
+    let text = Text { bytes, tokens };
+    match verdict(alloc, &text, &mut draft, conjecture.is_some())? {
+        Err(kind) => Ok(Err(kind)),
+        Ok(
+            Good {
+                name,
+                role,
+                formula,
+            },
+        ) => {
+            let name = name_bytes(alloc, name)?;
+            let problem = Problem {
+                symbols: draft.symbols,
+                statements,
+                axioms,
+                conjecture,
+            };
+            Ok(Ok(with_formula(problem, Statement { name, role }, formula)?))
+        }
     }
 }
 

@@ -1,53 +1,57 @@
-//! What stands around the formula of a statement, found without taking memory.
+//! What stands around the formula of a statement.
 
-ghost use Rattle.std.specs.Prelude.{◌≡◌, codes, option_map};
-ghost use Rattle.fof_parse.specs.Token.{tokens};
-ghost use Rattle.fof_parse.specs.Reading.{after_mark, word_at, after_word, role_of, role_at, heading_at, ending_at};
+ghost use Rattle.std.specs.Prelude.{◌≡◌, ◌+◌, [], codes, IfOk, option_map};
+ghost use Rattle.std.specs.List.{list_all};
+ghost use Rattle.fof_lex.specs.Bytes.{is_digit};
+ghost use Rattle.fof_parse.specs.Grammar.{is_integer, name_of};
+ghost use Rattle.fof_parse.specs.Problem.{role_of};
+ghost use Rattle.fof_parse.specs.Text.{AreIn, from};
+ghost use Rattle.fof_parse.specs.Reading.{one_token, lower_of, fof_of, heading_at};
+ghost use Rattle.fof_parse.specs.Views.{named};
 
-use crate::token::{Mark, Token, is_lower_word, next_token};
+use crate::build::unescaped;
+use crate::text::{Text, after_mark, token_at};
+use crate::token::{Bracket, Mark, Token};
+use containers::Items;
+use std::alloc::{AllocError, Global};
 
 /// What a statement is for.
 #[derive(Clone, Copy, Debug, PartialEq, Eq)]
 pub enum Role {
     Axiom,
+    Hypothesis,
+    Definition,
+    Assumption,
+    Lemma,
+    Theorem,
+    Corollary,
+    Plain,
+    NegatedConjecture,
     Conjecture,
 }
 
-/// What stands behind this mark in front of the text.
-pub fn after_mark(bytes: &[u8], mark: Mark) -> Option<&[u8]>
-    ensures { option_map (λ rest. tokens rest.now) result ≡ after_mark mark (tokens bytes.now) }
-{
-    match next_token(bytes)? {
-        (Token::Marked(found), rest) if found == mark => Some(rest),
-        _ => None,
-    }
-}
-
-fn word_at(bytes: &[u8]) -> Option<(&[u8], &[u8])>
-    ensures { option_map (λ p. (p.0.now, tokens p.1.now)) result ≡ word_at (tokens bytes.now) }
-{
-    match next_token(bytes)? {
-        (Token::Word(word), rest) if is_lower_word(word) => Some((word, rest)),
-        _ => None,
-    }
-}
-
-fn after_fof(bytes: &[u8]) -> Option<&[u8]>
-    ensures { option_map (λ rest. tokens rest.now) result ≡ after_word (codes "fof") (tokens bytes.now) }
-{
-    let (word, rest) = word_at(bytes)?;
-    if word == b"fof".as_slice() {
-        Some(rest)
-    } else {
-        None
-    }
-}
-
-fn role_of(word: &[u8]) -> Option<Role>
+/// The role of this word.
+pub fn role_of(word: &[u8]) -> Option<Role>
     ensures { result ≡ role_of word.now }
 {
     if word == b"axiom".as_slice() {
         Some(Role::Axiom)
+    } else if word == b"hypothesis".as_slice() {
+        Some(Role::Hypothesis)
+    } else if word == b"definition".as_slice() {
+        Some(Role::Definition)
+    } else if word == b"assumption".as_slice() {
+        Some(Role::Assumption)
+    } else if word == b"lemma".as_slice() {
+        Some(Role::Lemma)
+    } else if word == b"theorem".as_slice() {
+        Some(Role::Theorem)
+    } else if word == b"corollary".as_slice() {
+        Some(Role::Corollary)
+    } else if word == b"plain".as_slice() {
+        Some(Role::Plain)
+    } else if word == b"negated_conjecture".as_slice() {
+        Some(Role::NegatedConjecture)
     } else if word == b"conjecture".as_slice() {
         Some(Role::Conjecture)
     } else {
@@ -55,32 +59,91 @@ fn role_of(word: &[u8]) -> Option<Role>
     }
 }
 
-fn role_at(bytes: &[u8]) -> Option<(Role, &[u8])>
-    ensures { option_map (λ p. (p.0, tokens p.1.now)) result ≡ role_at (tokens bytes.now) }
+fn are_digits(text: &[u8]) -> bool
+    ensures { result ≡ list_all is_digit text.now }
 {
-    let (word, rest) = word_at(bytes)?;
-    Some((role_of(word)?, rest))
+    for c in text {
+        if !matches!(*c, b'0'..=b'9') {
+            return false;
+        }
+    }
+    true
 }
 
-/// The name and the role of the statement in front, and what stands behind `fof(NAME,ROLE,`.
+/// Whether a number is digits with a sign or without one.
+fn is_integer(number: &[u8]) -> bool
+    ensures { result ≡ is_integer number.now }
+{
+    match number {
+        [b'+' | b'-', digits @ ..] => are_digits(digits),
+        _ => are_digits(number),
+    }
+}
+
+/// The name of a statement at a place.
+fn name_at<'a>(text: &Text<'a>, at: usize) -> Option<Token<'a>>
+    requires { AreIn text.now }
+    ensures { option_map (λ t. (named t, from text.now (at + 1))) result ≡ one_token name_of (from text.now at) }
+{
+    match token_at(text, at)? {
+        Token::Lower(word) => Some(Token::Lower(word)),
+        Token::Quoted(word) => Some(Token::Quoted(word)),
+        Token::Number(word) if is_integer(word) => Some(Token::Number(word)),
+        _ => None,
+    }
+}
+
+fn lower_at<'a>(text: &Text<'a>, at: usize) -> Option<&'a [u8]>
+    requires { AreIn text.now }
+    ensures { option_map (λ w. (w.now, from text.now (at + 1))) result ≡ one_token lower_of (from text.now at) }
+{
+    match token_at(text, at)? {
+        Token::Lower(word) => Some(word),
+        _ => None,
+    }
+}
+
+fn fof_at<'a>(text: &Text<'a>, at: usize) -> Option<&'a [u8]>
+    requires { AreIn text.now }
+    ensures { option_map (λ w. (w.now, from text.now (at + 1))) result ≡ one_token fof_of (from text.now at) }
+{
+    match token_at(text, at)? {
+        Token::Lower(word) if word == b"fof".as_slice() => Some(word),
+        _ => None,
+    }
+}
+
+/// `fof(NAME,ROLE,`, and the place behind it.
+#[derive(Clone, Copy, Debug)]
+pub struct Heading<'a> {
+    pub name: Token<'a>,
+    pub role: &'a [u8],
+    pub next: usize,
+}
+
+/// What a statement begins with.
 #[tactic(auto, unfolding(crate::specs::Reading::heading_at))]
-pub fn heading_at(bytes: &[u8]) -> Option<((&[u8], Role), &[u8])>
-    ensures { option_map (λ p. ((p.0.0.now, p.0.1), tokens p.1.now)) result ≡ heading_at (tokens bytes.now) }
+pub fn heading_of<'a>(text: &Text<'a>) -> Option<Heading<'a>>
+    requires { AreIn text.now }
+    ensures { option_map (λ h. ((named h.name, h.role.now), from text.now h.next)) result ≡ heading_at (from text.now 0) }
 {
-    let rest = after_fof(bytes)?;
-    let rest = after_mark(rest, Mark::Open)?;
-    let (name, rest) = word_at(rest)?;
-    let rest = after_mark(rest, Mark::Comma)?;
-    let (role, rest) = role_at(rest)?;
-    let rest = after_mark(rest, Mark::Comma)?;
-    Some(((name, role), rest))
+    fof_at(text, 0)?;
+    let opened = after_mark(text, 1, Mark::Open(Bracket::Round))?;
+    let name = name_at(text, opened)?;
+    let first = after_mark(text, opened + 1, Mark::Comma)?;
+    let role = lower_at(text, first)?;
+    let next = after_mark(text, first + 1, Mark::Comma)?;
+    Some(Heading { name, role, next })
 }
 
-/// What stands behind the `).` in front, which ends a statement.
-#[tactic(auto, unfolding(crate::specs::Reading::ending_at))]
-pub fn ending_at(bytes: &[u8]) -> Option<&[u8]>
-    ensures { option_map (λ rest. tokens rest.now) result ≡ ending_at (tokens bytes.now) }
+/// What a name says.
+pub fn name_bytes(alloc: Global, name: Token<'_>) -> Result<Items<u8>, AllocError>
+    ensures { IfOk result (λ bytes. bytes ≡ named name.entry) }
 {
-    let rest = after_mark(bytes, Mark::Close)?;
-    after_mark(rest, Mark::Stop)
+    match name {
+        Token::Lower(word) => Items::from_slice(alloc, word),
+        Token::Number(word) => Items::from_slice(alloc, word),
+        Token::Quoted(word) => Items::from_slice(alloc, unescaped(alloc, word)?.as_slice()),
+        _ => Ok(Items::new(alloc)),
+    }
 }

@@ -1,139 +1,161 @@
-//! The tokens of a text, found one at a time.
+//! The tokens of a text, as the grammar tells them apart.
 
-ghost use Rattle.std.specs.Prelude.{◌≡◌, ◌<◌, ◌≤◌, [], ◌∷◌, length, take, drop, false, MatchOption, option_map};
-ghost use Rattle.std.specs.List.{list_all};
-ghost use Rattle.fol_core.specs.Spelling.{is_between, is_word_byte, is_lower_word};
-ghost use Rattle.fof_parse.specs.Token.{is_blank, begins_with, tokens, single};
-ghost use Rattle.fof_parse.specs.Views.{token_of};
-ghost use Rattle.fof_parse.specs.Runs.{word_len};
+ghost use Rattle.std.specs.Prelude.{◌≡◌};
+ghost use Rattle.fof_parse.specs.Token.{between, mark_of, connective_of, token_of};
+ghost use Rattle.fof_parse.specs.Views.{token_view};
+
+use fof_lex::{Connective, Kind};
 
 /// What stands between two units of a formula.
 #[derive(Clone, Copy, Debug, PartialEq, Eq)]
 pub enum Operator {
+    /// `=>`
     Implies,
+    /// `<=`
+    ImpliedBy,
+    /// `<=>`
+    Equivalent,
+    /// `<~>`
+    NotEquivalent,
+    /// `~&`
+    NotAnd,
+    /// `~|`
+    NotOr,
+    /// `&`
     And,
+    /// `|`
     Or,
 }
 
 #[derive(Clone, Copy, Debug, PartialEq, Eq)]
+pub enum Quantifier {
+    /// `!`
+    All,
+    /// `?`
+    Some,
+}
+
+#[derive(Clone, Copy, Debug, PartialEq, Eq)]
+pub enum Equality {
+    /// `=`
+    Equal,
+    /// `!=`
+    Unequal,
+}
+
+#[derive(Clone, Copy, Debug, PartialEq, Eq)]
+pub enum Bracket {
+    /// `(` and `)`
+    Round,
+    /// `[` and `]`
+    Square,
+    /// `{` and `}`
+    Curly,
+}
+
+/// The connectives and marks that the grammar names.
+#[derive(Clone, Copy, Debug, PartialEq, Eq)]
 pub enum Mark {
-    Open,
-    Close,
+    Open(Bracket),
+    Close(Bracket),
     Comma,
     Stop,
+    Colon,
     Not,
+    Quantifier(Quantifier),
     Binary(Operator),
+    Equality(Equality),
 }
 
+/// A token with its text.
 #[derive(Clone, Copy, Debug)]
 pub enum Token<'a> {
-    Word(&'a [u8]),
+    Lower(&'a [u8]),
+    Upper(&'a [u8]),
+    /// What stands between the quotes, with its escapes.
+    Quoted(&'a [u8]),
+    Distinct(&'a [u8]),
+    Dollar(&'a [u8]),
+    Number(&'a [u8]),
     Marked(Mark),
-    /// A byte that belongs to no token of the language.
-    Other(u8),
+    /// A mark that may stand in annotations alone.
+    Other,
 }
 
-fn is_blank(c: u8) -> bool
-    ensures { result ≡ is_blank c }
+/// What the connective is in the grammar.
+pub fn mark_of_connective(connective: Connective) -> Mark
+    ensures { result ≡ connective_of connective }
 {
-    matches!(c, 9..=13 | 32)
-}
-
-fn is_word_byte(c: u8) -> bool
-    ensures { result ≡ is_word_byte c }
-{
-    matches!(c, b'a'..=b'z' | b'A'..=b'Z' | b'0'..=b'9' | b'_')
-}
-
-/// How many bytes of a word stand in front.
-fn word_len(bytes: &[u8]) -> usize
-    ensures { result ≡ word_len bytes.now }
-{
-    for (i, c) in bytes.iter().enumerate() {
-        if !is_word_byte(*c) {
-            return i;
-        }
-    }
-    bytes.len()
-}
-
-/// What stands behind the blanks in front.
-fn skip_blanks(bytes: &[u8]) -> &[u8]
-    ensures tokens { tokens result.now ≡ tokens bytes.now }
-    ensures no_blank { begins_with is_blank result.now ≡ false }
-    ensures length { length result.now ≤ length bytes.now }
-{
-    let mut rest = bytes;
-    while let [c, after @ ..] = rest {
-        if !is_blank(*c) {
-            return rest;
-        }
-        rest = after;
-    }
-    rest
-}
-
-fn single(c: u8) -> Token<'static>
-    ensures { token_of result ≡ single c }
-{
-    match c {
-        b'(' => Token::Marked(Mark::Open),
-        b')' => Token::Marked(Mark::Close),
-        b',' => Token::Marked(Mark::Comma),
-        b'.' => Token::Marked(Mark::Stop),
-        b'&' => Token::Marked(Mark::Binary(Operator::And)),
-        b'|' => Token::Marked(Mark::Binary(Operator::Or)),
-        b'~' => Token::Marked(Mark::Not),
-        _ => Token::Other(c),
+    match connective {
+        Connective::Equivalent => Mark::Binary(Operator::Equivalent),
+        Connective::NotEquivalent => Mark::Binary(Operator::NotEquivalent),
+        Connective::Implies => Mark::Binary(Operator::Implies),
+        Connective::ImpliedBy => Mark::Binary(Operator::ImpliedBy),
+        Connective::NotAnd => Mark::Binary(Operator::NotAnd),
+        Connective::NotOr => Mark::Binary(Operator::NotOr),
+        Connective::NotEqual => Mark::Equality(Equality::Unequal),
     }
 }
 
-/// The token in front of a text that begins with no blank, and what stands behind it.
-fn token_in_front(bytes: &[u8]) -> Option<(Token<'_>, &[u8])>
-    requires { begins_with is_blank bytes.now ≡ false }
-    ensures { MatchOption result (tokens bytes.now ≡ [])
-        (λ found. (tokens bytes.now ≡ token_of found.0 ∷ tokens found.1.now) × (length found.1.now < length bytes.now)) }
+/// What the mark is in the grammar, and None for one that may stand in annotations alone.
+pub fn mark_of_byte(mark: fof_lex::Mark) -> Option<Mark>
+    ensures { result ≡ mark_of mark }
 {
-    let (first, after) = bytes.split_first()?;
-    if is_word_byte(*first) {
-        let (word, rest) = bytes.split_at(word_len(bytes));
-        return Some((Token::Word(word), rest));
+    match mark {
+        fof_lex::Mark::OpenParenthesis => Some(Mark::Open(Bracket::Round)),
+        fof_lex::Mark::CloseParenthesis => Some(Mark::Close(Bracket::Round)),
+        fof_lex::Mark::OpenBracket => Some(Mark::Open(Bracket::Square)),
+        fof_lex::Mark::CloseBracket => Some(Mark::Close(Bracket::Square)),
+        fof_lex::Mark::OpenBrace => Some(Mark::Open(Bracket::Curly)),
+        fof_lex::Mark::CloseBrace => Some(Mark::Close(Bracket::Curly)),
+        fof_lex::Mark::Comma => Some(Mark::Comma),
+        fof_lex::Mark::Stop => Some(Mark::Stop),
+        fof_lex::Mark::Colon => Some(Mark::Colon),
+        fof_lex::Mark::Tilde => Some(Mark::Not),
+        fof_lex::Mark::Exclamation => Some(Mark::Quantifier(Quantifier::All)),
+        fof_lex::Mark::Question => Some(Mark::Quantifier(Quantifier::Some)),
+        fof_lex::Mark::Ampersand => Some(Mark::Binary(Operator::And)),
+        fof_lex::Mark::Bar => Some(Mark::Binary(Operator::Or)),
+        fof_lex::Mark::Equals => Some(Mark::Equality(Equality::Equal)),
+        fof_lex::Mark::Semicolon
+        | fof_lex::Mark::Less
+        | fof_lex::Mark::Greater
+        | fof_lex::Mark::At
+        | fof_lex::Mark::Caret
+        | fof_lex::Mark::Plus
+        | fof_lex::Mark::Minus
+        | fof_lex::Mark::Star
+        | fof_lex::Mark::Slash
+        | fof_lex::Mark::Backslash
+        | fof_lex::Mark::Hash => None,
     }
-    if *first == b'=' {
-        if let [b'>', rest @ ..] = after {
-            return Some((Token::Marked(Mark::Binary(Operator::Implies)), rest));
-        }
+}
+
+/// What stands between the quotes.
+fn between(text: &[u8]) -> &[u8]
+    ensures { result.now ≡ between text.now }
+{
+    if text.len() < 2 {
+        return &[];
     }
-    Some((single(*first), after))
+    &text[1..text.len() - 1]
 }
 
-/// The first token, and what stands behind it.
-pub fn next_token(bytes: &[u8]) -> Option<(Token<'_>, &[u8])>
-    ensures { MatchOption result (tokens bytes.now ≡ [])
-        (λ found. (tokens bytes.now ≡ token_of found.0 ∷ tokens found.1.now) × (length found.1.now < length bytes.now)) }
+/// The token of a kind with its text.
+pub fn token_of(kind: Kind, text: &[u8]) -> Token<'_>
+    ensures { token_view result ≡ token_of kind text.now }
 {
-    token_in_front(skip_blanks(bytes))
-}
-
-fn is_small_letter(c: u8) -> bool
-    ensures { result ≡ is_between 97 122 c }
-{
-    matches!(c, b'a'..=b'z')
-}
-
-/// Whether each byte is one of a word.
-fn is_word(bytes: &[u8]) -> bool
-    ensures { result ≡ list_all is_word_byte bytes.now }
-{
-    word_len(bytes) == bytes.len()
-}
-
-/// Whether the word is a small letter with letters, digits and underscores behind it.
-pub fn is_lower_word(word: &[u8]) -> bool
-    ensures { result ≡ is_lower_word word.now }
-{
-    match word.split_first() {
-        Some((first, rest)) => is_small_letter(*first) && is_word(rest),
-        None => false,
+    match kind {
+        Kind::LowerWord => Token::Lower(text),
+        Kind::UpperWord => Token::Upper(text),
+        Kind::Quoted => Token::Quoted(between(text)),
+        Kind::DistinctObject => Token::Distinct(text),
+        Kind::DollarWord => Token::Dollar(text),
+        Kind::Number => Token::Number(text),
+        Kind::Connective(connective) => Token::Marked(mark_of_connective(connective)),
+        Kind::Mark(mark) => match mark_of_byte(mark) {
+            Some(mark) => Token::Marked(mark),
+            None => Token::Other,
+        },
     }
 }

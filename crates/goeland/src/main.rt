@@ -3,14 +3,10 @@
 
 ghost use Rattle.std.specs.Prelude.{◌≡◌};
 ghost use Rattle.std.specs.Process.{exit_status};
-ghost use Rattle.goeland.specs.Run.{exit_of};
+ghost use Rattle.goeland_run.specs.Run.{exit_of};
 
-mod run;
-#[cfg(test)]
-mod tests;
-
-use crate::run::{Status, run_alone};
 use gl_outside::{HostShelf, HostSink};
+use goeland_run::{Status, run_alone};
 use std::env;
 use std::io::{self, ErrorKind};
 use std::process::ExitCode;

@@ -1,12 +1,13 @@
 -- What a check of a proof answers, what it prints, and why.
 use Rattle.std.specs.Prelude.{◌≡◌, ◌≢◌, ◌⊎◌, ℕ, ◌<◌, ◌≤◌, List, [], ◌∷◌, ◌++◌, map, codes, decimal, Option, Some, IfSome, String, string_bytes, length, slice_get}
 use Rattle.gl_outside.specs.Outside.{HasRisen, Appends, AppendsFront}
-use Rattle.fof_parse.specs.Problem.{PlainProblem, IsNoProblem, Start}
+use Rattle.fof_parse.specs.Problem.{PlainProblem, Start}
 use Rattle.fof_parse.specs.TheProblem.{IsTheProblem}
+use Rattle.fof_parse.specs.Lines.{IsRefusal}
 use Rattle.gs3_rules.specs.Refutes.{ProofTree, Refutes, FailsAt}
 use Rattle.gs3_text.specs.ProofText.{text_of, ProofText, IsMalformedAt, step_lines}
 use Rattle.gs3_run.specs.declared.run.Report.{Report}
-use Rattle.gs3_run.specs.declared.run.Report.TheVariants.{Usage, TooLarge, NotBuilt, TooLargeProof, ReadFault, Valid, Invalid}
+use Rattle.gs3_run.specs.declared.run.Report.TheVariants.{Usage, TooLarge, Refused, TooLargeProof, ReadFault, Valid, Invalid}
 use Rattle.gs3_run.specs.declared.run.CheckStatus.{CheckStatus}
 use Rattle.gs3_run.specs.declared.run.CheckStatus.TheVariants as status
 
@@ -48,7 +49,7 @@ wrong_line line = codes "% gs3check Wrong " ++ decimal line
 abbrev pub printed : Report → List ℕ
 printed Usage = text_of (codes "% usage: gs3check PROBLEM PROOF" ∷ [])
 printed TooLarge = text_of (codes "% refused TooLarge" ∷ [])
-printed NotBuilt = text_of (codes "% refused NotBuilt" ∷ [])
+printed (Refused text) = text.items
 printed TooLargeProof = text_of (codes "% refused TooLarge proof" ∷ [])
 printed ReadFault = text_of (codes "% read fault" ∷ [])
 printed Valid = text_of (codes "% gs3check Valid" ∷ [])
@@ -57,7 +58,7 @@ printed (Invalid text) = text.items
 abbrev pub status_of : Report → CheckStatus
 status_of Usage = status.Usage
 status_of TooLarge = status.Refused
-status_of NotBuilt = status.Refused
+status_of (Refused text) = status.Refused
 status_of TooLargeProof = status.Refused
 status_of ReadFault = status.ReadFault
 status_of Valid = status.Valid
@@ -94,6 +95,16 @@ pub record IsNoTextAt (problem : PlainProblem) (bytes : List ℕ) (line : ℕ) :
   pub malformed : IsMalformedAt problem.symbols.functions bytes line
   pub no_text : (tree : ProofTree) → ProofText problem.symbols.functions bytes tree → ⊥
 
+-- what is reported of bytes that are no problem's text
+abbrev pub RefusesText : List ℕ → Report → Type 0
+RefusesText bytes Usage = ⊥
+RefusesText bytes TooLarge = most_problem_bytes < length bytes
+RefusesText bytes (Refused text) = IsRefusal bytes text.items
+RefusesText bytes TooLargeProof = ⊥
+RefusesText bytes ReadFault = ⊥
+RefusesText bytes Valid = ⊥
+RefusesText bytes (Invalid text) = ⊥
+
 -- the bytes are no proof of the problem, and this text says why
 abbrev pub IsInvalid : PlainProblem → List ℕ → List ℕ → Type 0
 IsInvalid problem bytes text =
@@ -104,7 +115,7 @@ IsInvalid problem bytes text =
 abbrev pub Judges : PlainProblem → List ℕ → Report → Type 0
 Judges problem bytes Usage = ⊥
 Judges problem bytes TooLarge = ⊥
-Judges problem bytes NotBuilt = ⊥
+Judges problem bytes (Refused text) = ⊥
 Judges problem bytes TooLargeProof = ⊥
 Judges problem bytes ReadFault = ⊥
 Judges problem bytes Valid = IsValid problem bytes
@@ -133,7 +144,7 @@ pub record ReadsProof (problem : PlainProblem) (told : Option (List ℕ)) (r : R
 abbrev pub FitsProof : PlainProblem → Option (List ℕ) → ℕ → ℕ → Report → Type 0
 FitsProof problem told before after Usage = ⊥
 FitsProof problem told before after TooLarge = ⊥
-FitsProof problem told before after NotBuilt = ⊥
+FitsProof problem told before after (Refused text) = ⊥
 FitsProof problem told before after TooLargeProof = (after ≡ before) × IfSome told (λ b. most_proof_bytes < length b)
 FitsProof problem told before after ReadFault = HasRisen before after
 FitsProof problem told before after Valid = (after ≡ before) × ReadsProof problem told Valid
@@ -143,7 +154,7 @@ FitsProof problem told before after (Invalid text) = (after ≡ before) × Reads
 abbrev pub FitsBoth : Option (List ℕ) → Option (List ℕ) → ℕ → ℕ → Report → Type 0
 FitsBoth told proof before after Usage = ⊥
 FitsBoth told proof before after TooLarge = (after ≡ before) × IfSome told (λ b. most_problem_bytes < length b)
-FitsBoth told proof before after NotBuilt = (after ≡ before) × ((bytes : List ℕ) × Tells told bytes × (length bytes ≤ most_problem_bytes) × IsNoProblem bytes)
+FitsBoth told proof before after (Refused text) = (after ≡ before) × ((bytes : List ℕ) × Tells told bytes × (length bytes ≤ most_problem_bytes) × IsRefusal bytes text.items)
 FitsBoth told proof before after ReadFault = HasRisen before after
 FitsBoth told proof before after TooLargeProof = (problem : PlainProblem) × ReadsProblem told problem × FitsProof problem proof before after TooLargeProof
 FitsBoth told proof before after Valid = (problem : PlainProblem) × ReadsProblem told problem × FitsProof problem proof before after Valid
@@ -152,7 +163,7 @@ FitsBoth told proof before after (Invalid text) = (problem : PlainProblem) × Re
 abbrev pub IsUsage : Report → Type 0
 IsUsage Usage = Unit {0}
 IsUsage TooLarge = ⊥
-IsUsage NotBuilt = ⊥
+IsUsage (Refused text) = ⊥
 IsUsage TooLargeProof = ⊥
 IsUsage ReadFault = ⊥
 IsUsage Valid = ⊥

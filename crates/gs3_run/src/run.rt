@@ -1,11 +1,12 @@
 //! A check: a problem and a proof on the shelf, and the line that says what the proof is.
 
-ghost use Rattle.std.specs.Prelude.{◌≡◌, ◌≤◌, ◌++◌, ◌∷◌, [], Some, length, decimal, IfOk, OnErr, MatchOption};
+ghost use Rattle.std.specs.Prelude.{◌≡◌, ◌≤◌, ℕ, List, ◌++◌, ◌∷◌, [], Some, length, decimal, IfOk, OnErr, MatchOption};
 ghost use Rattle.fof_parse.specs.ProblemView.{plain_problem};
-ghost use Rattle.gs3_run.specs.Run.{words_of, AreNames, AreNoNames, HaveNames, most_problem_bytes, printed, status_of, Judges, FitsProof, FitsBoth, Fits, Prints, Ran};
+ghost use Rattle.fof_parse.specs.Refused.{Refuses};
+ghost use Rattle.gs3_run.specs.Run.{words_of, AreNames, AreNoNames, HaveNames, most_problem_bytes, printed, status_of, Judges, RefusesText, FitsProof, FitsBoth, Fits, Prints, Ran};
 ghost use Rattle.gs3_text.specs.ProofText.{text_of};
 
-use fof_parse::{MAX_BYTES, Problem, ReadError, read_problem};
+use fof_parse::{MAX_BYTES, Problem, ReadError, read_problem, refusal_line};
 use gl_outside::{FetchError, Shelf, Sink, SinkFailed};
 use gs3_kernel::{CheckError, check};
 use gs3_text::{TextError, read_tree};
@@ -24,7 +25,7 @@ pub enum CheckStatus {
     Invalid,
     /// The words are not the names of a problem and a proof.
     Usage,
-    /// The problem is too large or has what is not built yet, or the proof is too large.
+    /// The problem's text is refused, or the proof is too large.
     Refused,
     /// The problem or the proof could not be read.
     ReadFault,
@@ -38,7 +39,8 @@ pub enum CheckStatus {
 pub(crate) enum Report {
     Usage,
     TooLarge,
-    NotBuilt,
+    /// The line that says why and where the problem's text is refused.
+    Refused(Vec<u8>),
     TooLargeProof,
     ReadFault,
     Valid,
@@ -96,6 +98,20 @@ fn report_proof<S: Shelf>(
     }
 }
 
+/// The report of the text of a problem that is refused.
+fn refused(alloc: Global, error: ReadError) -> Result<Report, AllocError>
+    ensures { IfOk result (λ r. (bytes : List ℕ) → Refuses bytes error → RefusesText bytes r) }
+{
+    match error {
+        ReadError::TooLarge => Ok(Report::TooLarge),
+        ReadError::Lex { offset } => Ok(Report::Refused(refusal_line(alloc, "Lex", offset)?)),
+        ReadError::Bad { offset, kind } => {
+            Ok(Report::Refused(refusal_line(alloc, kind.word(), offset)?))
+        }
+        ReadError::OutOfMemory => Err(AllocError),
+    }
+}
+
 /// The report of the text of a problem, and of the proof on the shelf under a name.
 fn report_text<S: Shelf>(
     alloc: Global,
@@ -109,9 +125,7 @@ fn report_text<S: Shelf>(
 {
     match read_problem(alloc, bytes) {
         Ok(problem) => report_proof(alloc, &problem, proof, shelf),
-        Err(ReadError::TooLarge) => Ok(Report::TooLarge),
-        Err(ReadError::NotBuilt) => Ok(Report::NotBuilt),
-        Err(ReadError::OutOfMemory) => Err(AllocError),
+        Err(error) => refused(alloc, error),
     }
 }
 
@@ -168,7 +182,7 @@ fn line_of(report: &Report) -> &[u8]
     match report {
         Report::Usage => b"% usage: gs3check PROBLEM PROOF\n",
         Report::TooLarge => b"% refused TooLarge\n",
-        Report::NotBuilt => b"% refused NotBuilt\n",
+        Report::Refused(text) => text.as_slice(),
         Report::TooLargeProof => b"% refused TooLarge proof\n",
         Report::ReadFault => b"% read fault\n",
         Report::Valid => b"% gs3check Valid\n",
@@ -181,7 +195,7 @@ fn end_of(report: &Report) -> CheckStatus
 {
     match report {
         Report::Usage => CheckStatus::Usage,
-        Report::TooLarge | Report::NotBuilt | Report::TooLargeProof => CheckStatus::Refused,
+        Report::TooLarge | Report::Refused(_) | Report::TooLargeProof => { CheckStatus::Refused }
         Report::ReadFault => CheckStatus::ReadFault,
         Report::Valid => CheckStatus::Valid,
         Report::Invalid(_) => CheckStatus::Invalid,

@@ -4,6 +4,9 @@ use std::alloc::{AllocError, Global};
 
 const PROBLEM: &[u8] = b"fof(a,axiom,p).\nfof(b,axiom,p=>q).\nfof(c,conjecture,q).\n";
 
+/// Someone drinks only where all do.
+const DRINKER: &[u8] = b"fof(c,conjecture,?[X]:(d(X)=>![Y]:d(Y))).\n";
+
 const USAGE: &[u8] = b"% usage: gs3check PROBLEM PROOF\n";
 
 fn add(alloc: Global, files: &mut Files, name: &str, bytes: &[u8]) -> Result<(), AllocError> {
@@ -12,10 +15,11 @@ fn add(alloc: Global, files: &mut Files, name: &str, bytes: &[u8]) -> Result<(),
     files.add(name, bytes)
 }
 
-/// The problem under the name `p`, and these bytes under the name `-`.
+/// Two problems under the names `p` and `d`, and these bytes under the name `-`.
 fn shelf(alloc: Global, proof: &[u8]) -> Result<MemoryShelf, AllocError> {
     let mut files = Files::new(alloc);
     add(alloc, &mut files, "p", PROBLEM)?;
+    add(alloc, &mut files, "d", DRINKER)?;
     add(alloc, &mut files, "-", proof)?;
     Ok(MemoryShelf::new(files))
 }
@@ -34,17 +38,28 @@ fn says(
     Ok(ended == status && out.bytes() == line)
 }
 
-/// Whether the check of the bytes ends so and says so.
+/// Whether the check of the bytes as a proof of the problem ends so and says so.
+fn judges_of(
+    alloc: Global,
+    problem: &str,
+    proof: &[u8],
+    status: CheckStatus,
+    line: &[u8],
+) -> Result<bool, AllocError> {
+    let mut words = Vec::new(alloc);
+    words.push(String::from_str(alloc, problem)?)?;
+    words.push(String::from_str(alloc, "-")?)?;
+    says(alloc, words.as_slice(), proof, status, line)
+}
+
+/// The same of the first problem.
 fn judges(
     alloc: Global,
     proof: &[u8],
     status: CheckStatus,
     line: &[u8],
 ) -> Result<bool, AllocError> {
-    let mut words = Vec::new(alloc);
-    words.push(String::from_str(alloc, "p")?)?;
-    words.push(String::from_str(alloc, "-")?)?;
-    says(alloc, words.as_slice(), proof, status, line)
+    judges_of(alloc, "p", proof, status, line)
 }
 
 #[test]
@@ -101,6 +116,37 @@ fn names_the_line_that_goes_wrong(rt: HostRuntime) -> Result<(), AllocError> {
     ];
     for (proof, line) in rows {
         let told = judges(rt.alloc(), proof, CheckStatus::Invalid, line)?;
+        assert!(rt; told);
+    }
+    Ok(())
+}
+
+#[test]
+fn checks_a_proof_with_quantifiers(rt: HostRuntime) -> Result<(), AllocError> {
+    let rows: [(&[u8], CheckStatus, &[u8]); 4] = [
+        (
+            b"%\n%\n%\n%\ngs3 1\ngamma 0 #0\nalpha 1\ndelta 3 #1\ngamma 0 #1\nalpha 5\nclose 6 4\n%\n",
+            CheckStatus::Valid,
+            b"% gs3check Valid\n",
+        ),
+        (
+            b"%\n%\n%\n%\ngs3 1\ngamma 0 #0\nalpha 1\ndelta 3 #0\ngamma 0 #1\nalpha 5\nclose 6 4\n%\n",
+            CheckStatus::Invalid,
+            b"% gs3check Wrong 8\n",
+        ),
+        (
+            b"%\n%\n%\n%\ngs3 1\ngamma 0 #0\nalpha 1\ndelta 3 #1\ngamma 0 #1\nalpha 5\n%\n",
+            CheckStatus::Invalid,
+            b"% gs3check Malformed 12\n",
+        ),
+        (
+            b"%\n%\n%\n%\ngs3 1\ngamma 0 e\nalpha 1\ndelta 3 #1\ngamma 0 #1\nalpha 5\nclose 6 4\n%\n",
+            CheckStatus::Invalid,
+            b"% gs3check Malformed 6\n",
+        ),
+    ];
+    for (proof, status, line) in rows {
+        let told = judges_of(rt.alloc(), "d", proof, status, line)?;
         assert!(rt; told);
     }
     Ok(())

@@ -8,3 +8,4 @@ pub mod Searching
 pub mod Names
 pub mod Sights
 pub mod Progressing
+pub mod Arguments

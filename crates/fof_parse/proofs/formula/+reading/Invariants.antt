@@ -1,32 +1,37 @@
-use Rattle.std.proofs.Common.{◌≡◌, ◌+◌, ◌*◌}
+use Rattle.std.proofs.Common.{◌≡◌, ◌<◌, ◌+◌, ◌-◌, ◌*◌, length}
 use Rattle.fol_core.specs.View.{formula_of}
-use Rattle.fof_parse.specs.Token.{tokens}
-use Rattle.fof_parse.proofs.Parsing.{SoFar}
+use Rattle.fof_parse.specs.Text.{from}
+use Rattle.fof_parse.specs.Building.{names, state_of}
+use Rattle.fof_parse.proofs.Means.{FormulaSoFar}
 use Rattle.fof_parse.proofs.formula.+reading.Given as goal
 
-abbrev pub decreases-formula : goal.decreases-formula
-decreases-formula l = 4 * l.room + 3
+abbrev pub decreases-unit_at : goal.decreases-unit_at
+decreases-unit_at l = 3 * (length l.text.now.tokens.now - l.at) + 1
 
-abbrev pub decreases-unit : goal.decreases-unit
-decreases-unit l = 4 * l.room + 2
+abbrev pub decreases-negation_at : goal.decreases-negation_at
+decreases-negation_at l = 3 * (length l.text.now.tokens.now - l.at)
 
-abbrev pub decreases-negation : goal.decreases-negation
-decreases-negation l = 4 * l.room + 1
+abbrev pub decreases-group_at : goal.decreases-group_at
+decreases-group_at l = 3 * (length l.text.now.tokens.now - l.at)
 
-abbrev pub decreases-group : goal.decreases-group
-decreases-group l = 4 * l.room + 1
+abbrev pub decreases-quantified_at : goal.decreases-quantified_at
+decreases-quantified_at l = 3 * (length l.text.now.tokens.now - l.at)
 
-abbrev pub decreases-with_operand : goal.decreases-with_operand
-decreases-with_operand l = 4 * l.left.room + 2
+abbrev pub decreases-scope_at : goal.decreases-scope_at
+decreases-scope_at l = 3 * (length l.text.now.tokens.now - l.at)
 
-abbrev pub decreases-deeper_unit : goal.decreases-deeper_unit
-decreases-deeper_unit l = 4 * l.room
+abbrev pub decreases-bound_at : goal.decreases-bound_at
+decreases-bound_at l = 3 * (length l.text.now.tokens.now - l.at) + 2
 
-abbrev pub invariant-formula-loop-op : goal.invariant-formula-loop-op
-invariant-formula-loop-op l = record {
-  functions : l.symbols.functions ≡ l.fn.symbols.functions;
-  so_far : SoFar l.room (tokens l.bytes) l.fn.symbols.predicates l.symbols.predicates l.by (formula_of l.front.formula) l.front.room (tokens l.front.rest.now);
+abbrev pub decreases-formula_at : goal.decreases-formula_at
+decreases-formula_at l = 3 * (length l.text.now.tokens.now - l.at) + 2
+
+abbrev pub invariant-formula_at-loop-op : goal.invariant-formula_at-loop-op
+invariant-formula_at-loop-op l = record {
+  scope : l.scope.items ≡ l.fn.scope.items;
+  so_far : FormulaSoFar (from l.text l.at) (names l.fn.scope.items) (state_of l.fn.draft) (state_of l.draft) l.by (formula_of l.front.formula) (from l.text l.front.next);
+  further : l.at < l.front.next;
 }
 
-abbrev pub decreases-formula-loop-op : goal.decreases-formula-loop-op
-decreases-formula-loop-op l = l.front.room
+abbrev pub decreases-formula_at-loop-op : goal.decreases-formula_at-loop-op
+decreases-formula_at-loop-op l = length l.text.tokens.now - l.front.next

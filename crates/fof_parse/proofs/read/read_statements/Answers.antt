@@ -1,19 +1,27 @@
-use Rattle.std.proofs.Common.{◌≢◌, [], sym, ◌∙◌}
-use Rattle.std.proofs.lemmas.Bool.{false≢true}
-use Rattle.fof_parse.specs.Token.{tokens}
-use Rattle.fof_parse.proofs.Statements.{statement_shortens}
-use Rattle.fof_parse.proofs.Leading.{whole_text, no_problem, goes_on_reading}
+use Rattle.std.proofs.Common.{sym, ap, subst, ◌∙◌, arith}
+use Rattle.fof_parse.specs.Text.{AreAllIn}
+use Rattle.fof_parse.specs.ProblemView.{plain_problem}
+use Rattle.fof_parse.proofs.Pieces.{statement_len_le, all_in_take, all_in_drop, bad_at, one_more, shorter, whole}
 use Rattle.fof_parse.proofs.read.read_statements.Goals as goal
 
-pub returns-in-None : goal.returns-in-None
-returns-in-None c =
-    let some : tokens c.loop-rest.rest.now ≢ [] = λ e. false≢true (sym c.loop-rest-test.true ∙ c.is_at_end.ensures.1 e) in no_problem c.args.bytes.now _ _ c.loop-rest.invariant some (rw c.in-None.is at c.in_ok-with_statement.ensures)
+pub split_at-requires : goal.split_at-requires
+split_at-requires c = omega (arith, c.statement_len.ensures, statement_len_le c.loop-first.rest.now)
 
-pub loop-rest-smaller : goal.loop-rest-smaller
-loop-rest-smaller c = let g = rw c.in-Some.is at c.in_ok-with_statement.ensures in statement_shortens _ (g.0, _) g.1
+pub with_statement-requires : goal.with_statement-requires
+with_statement-requires c =
+    subst (AreAllIn c.args.bytes.now) (sym c.split_at.ensures.front) (all_in_take c.args.bytes.now c.statement_len.result c.loop-first.rest.now c.loop-first.invariant.all_in)
 
-pub loop-rest-preserved : goal.loop-rest-preserved
-loop-rest-preserved c = goes_on_reading _ _ _ _ _ c.loop-rest.invariant (rw c.in-Some.is at c.in_ok-with_statement.ensures)
+pub returns-in-Err : goal.returns-in-Err
+returns-in-Err c =
+    bad_at c.args.bytes.now c.args.tokens.now c.loop-first.rest.now c.split_at.result.0.now c.statement_len.result c.in-Some.first.now (plain_problem c.loop-first.problem) c.loop-first.invariant.so_far
+    (sym c.in-Some.ensures.value) c.statement_len.ensures c.split_at.ensures.front c.in-Err.kind (rw c.in-Err.is at c.in_ok-kind.ensures)
+
+pub loop-first-preserved : goal.loop-first-preserved
+loop-first-preserved c = record {
+  so_far = one_more c.args.bytes.now c.args.tokens.now c.loop-first.rest.now c.split_at.result.0.now c.statement_len.result c.in-Some.first.now (plain_problem c.loop-first.problem) c.loop-first.invariant.so_far
+      (sym c.in-Some.ensures.value) c.statement_len.ensures c.split_at.ensures.front c.split_at.result.1.now (plain_problem c.in-Ok.next) c.split_at.ensures.back (rw c.in-Ok.is at c.in_ok-kind.ensures);
+  all_in = subst (AreAllIn c.args.bytes.now) (sym c.split_at.ensures.back) (all_in_drop c.args.bytes.now c.statement_len.result c.loop-first.rest.now c.loop-first.invariant.all_in);
+}
 
 pub returns : goal.returns
-returns c = whole_text c.args.bytes.now _ _ c.loop-rest.invariant (c.is_at_end.ensures.0 c.loop-rest-test.false)
+returns c = whole c.args.bytes.now c.args.tokens.now c.loop-first.rest.now (plain_problem c.loop-first.problem) c.loop-first.invariant.so_far (sym c.in_default.ensures.value)

@@ -1,6 +1,8 @@
-use Rattle.std.proofs.Common.{refl, ap, Err}
+use Rattle.std.proofs.lemmas.Result.{IfOk-weaker}
+use Rattle.gs3_run.proofs.Told.{fits_refused}
 use Rattle.gs3_run.proofs.run.report_text.Goals as goal
 
-pub returns-in-Err-NotBuilt-clause-fits : goal.returns-in-Err-NotBuilt-clause-fits
-returns-in-Err-NotBuilt-clause-fits g c =
-    (refl, (c.args.bytes.now, refl, c.requires, c.in-Err-NotBuilt.ensures.not_built (ap Err c.in-Err-NotBuilt.field-0-is)))
+pub returns-in-Err-clause-fits : goal.returns-in-Err-clause-fits
+returns-in-Err-clause-fits g c =
+    IfOk-weaker c.refused.result _ _ (λ r h.
+    fits_refused c.args.bytes.now _ _ c.requires r (h c.args.bytes.now c.in-Err.ensures.refused)) c.refused.ensures

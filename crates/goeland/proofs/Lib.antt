@@ -1,5 +1,0 @@
-pub mod Spelled
-pub mod Reports
-pub mod Answered
-pub mod Puts
-pub mod Words
