@@ -5,4 +5,5 @@ pub mod Comments
 pub mod Found
 pub mod Longest
 pub mod Steps
+pub mod UpTo
 pub mod Rows

@@ -1,9 +1,7 @@
 -- A text is read in one way, a piece at a time.
-use Rattle.std.proofs.Common.{◌≡◌, ◌≢◌, ℕ, zero, suc, Bool, true, false, eqb, ◌+◌, ◌-◌, ◌<◌, ◌≤◌, List, [], ◌∷◌, ◌++◌, length, refl, ap, sym, ◌∙◌, subst, append_assoc, append-nil, take, drop, length-append, ◌⊎◌, inl, inr, arith, lit<}
-use Rattle.std.specs.List.{slice_range}
-use Rattle.std.proofs.Math.Seq.{take-append_seam, drop-append_seam}
+use Rattle.std.proofs.Common.{◌≡◌, ◌≢◌, ℕ, zero, suc, Bool, true, false, eqb, ◌+◌, ◌<◌, List, [], ◌∷◌, ◌++◌, length, refl, ap, sym, ◌∙◌, subst, length-append, ◌⊎◌, inl, inr, arith, lit<}
 use Rattle.std.proofs.lemmas.Bool.{false≢true, eqb-true}
-use Rattle.fof_lex.specs.Tokens.{IsTextOf, lower_word, upper_word, one_dollar, two_dollars, quoted, distinct_object, AreDigits, digits, number, connective_text, mark_text, IsLongest, IsGap, blank, line_comment, block_comment, Lexes, ends, skips, takes, BeginsNothing, LexFails, fails, after_gap, after_token, AreIn}
+use Rattle.fof_lex.specs.Tokens.{IsTextOf, lower_word, upper_word, one_dollar, two_dollars, quoted, distinct_object, AreDigits, digits, number, connective_text, mark_text, IsLongest, IsGap, blank, line_comment, block_comment, Lexes, ends, skips, takes, BeginsNothing, LexFails, fails, after_gap, after_token}
 use Rattle.fof_lex.specs.declared.token.Connective.{Connective}
 use Rattle.fof_lex.specs.declared.token.Connective.TheVariants.{Equivalent, NotEquivalent, Implies, ImpliedBy, NotAnd, NotOr, NotEqual}
 use Rattle.fof_lex.specs.declared.token.Mark.{Mark}
@@ -15,7 +13,7 @@ use Rattle.fof_lex.specs.Reading.{Piece, gap, token, nothing, piece_at}
 use Rattle.fof_lex.proofs.Found.{IsFound, found}
 use Rattle.fof_lex.proofs.Longest.{gap_read, gap_found, longest_read, longest_is_read, nothing_read, begins_here}
 
-cut_length : (text front rest : List ℕ) → text ≡ front ++ rest → length text ≡ length front + length rest
+pub cut_length : (text front rest : List ℕ) → text ≡ front ++ rest → length text ≡ length front + length rest
 cut_length text front rest e = ap length e ∙ length-append front rest
 
 -- the token of that kind that goes from one offset to the other
@@ -136,7 +134,7 @@ mark_length Slash = lit< tt
 mark_length Backslash = lit< tt
 mark_length Hash = lit< tt
 
-text_length : (kind : Kind) (cs : List ℕ) → IsTextOf kind cs → 0 < length cs
+pub text_length : (kind : Kind) (cs : List ℕ) → IsTextOf kind cs → 0 < length cs
 text_length LowerWord cs (lower_word c more h k) = omega arith
 text_length UpperWord cs (upper_word c more h k) = omega arith
 text_length Quoted cs (quoted body h b) = omega arith
@@ -156,61 +154,11 @@ gap_length front rest (block_comment body r h) = omega arith
 
 -- Reading on
 
--- The text is what is left of the bytes, where these are the tokens so far.
-pub record IsLeft (bytes text : List ℕ) (tokens : List Token) : Type 0 where
-  pub at : ℕ
-  pub place : at + length text ≡ length bytes
-  pub lexes : (more : List Token) → Lexes at text more → Lexes 0 bytes (tokens ++ more)
-  pub refuses : (bad : ℕ) → LexFails at text bad → LexFails 0 bytes bad
-
-pub all_left : (bytes : List ℕ) → IsLeft bytes bytes []
-all_left bytes = record { at = 0; place = omega arith; lexes = λ more h. h; refuses = λ bad h. h }
-
-pub left_fits : (bytes text : List ℕ) (tokens : List Token) → IsLeft bytes text tokens → length text ≤ length bytes
-left_fits bytes text tokens l = omega (arith, l.place)
-
 pub gap_shorter : (text rest : List ℕ) → piece_at text ≡ gap rest → length rest < length text
 gap_shorter text rest e = let g = gap_found text rest e in omega (arith, cut_length text g.front rest g.cut, gap_length g.front rest g.is)
 
 pub token_shorter : (text rest : List ℕ) (kind : Kind) → piece_at text ≡ token kind rest → length rest < length text
 token_shorter text rest kind e = let h = longest_read text rest kind e in omega (arith, cut_length text h.0 rest h.1, text_length kind h.0 h.2.begins.is_text)
-
--- behind a blank or a comment
-pub gap_left : (bytes text rest : List ℕ) (tokens : List Token) → piece_at text ≡ gap rest → IsLeft bytes text tokens → IsLeft bytes rest tokens
-gap_left bytes text rest tokens e l =
-    let g = gap_found text rest e in
-    record {
-      at = l.at + length g.front;
-      place = omega (arith, l.place, cut_length text g.front rest g.cut);
-      lexes = λ more h. l.lexes more (skips l.at text g.front rest more g.cut g.is h);
-      refuses = λ bad h. l.refuses bad (after_gap l.at text g.front rest bad g.cut g.is h);
-    }
-
--- behind a token
-pub token_left : (bytes text rest : List ℕ) (tokens : List Token) (kind : Kind) → piece_at text ≡ token kind rest → IsLeft bytes text tokens
-    → IsLeft bytes rest (tokens ++ token_from kind (length bytes - length text) (length bytes - length rest) ∷ [])
-token_left bytes text rest tokens kind e l =
-    let h = longest_read text rest kind e in
-    let start : l.at ≡ length bytes - length text = omega (arith, l.place) in
-    let end : l.at + length h.0 ≡ length bytes - length rest = omega (arith, l.place, cut_length text h.0 rest h.1) in
-    let t = token_from kind (length bytes - length text) (length bytes - length rest) in
-    let same : token_from kind l.at (l.at + length h.0) ≡ t = ap (λ n. token_from kind n (l.at + length h.0)) start ∙ ap (token_from kind (length bytes - length text)) end in
-    record {
-      at = l.at + length h.0;
-      place = omega (arith, l.place, cut_length text h.0 rest h.1);
-      lexes = λ more k. subst (Lexes 0 bytes) (ap (λ x. tokens ++ x ∷ more) same ∙ sym (append_assoc tokens (t ∷ []) more))
-          (l.lexes (token_from kind l.at (l.at + length h.0) ∷ more) (takes l.at text h.0 rest kind more h.1 h.2 k));
-      refuses = λ bad k. l.refuses bad (after_token l.at text h.0 rest kind bad h.1 h.2 k);
-    }
-
--- at the end
-pub none_left : (bytes text : List ℕ) (tokens : List Token) → text ≡ [] → IsLeft bytes text tokens → Lexes 0 bytes tokens
-none_left bytes text tokens e l = subst (Lexes 0 bytes) (append-nil tokens) (l.lexes [] (subst (λ bs. Lexes l.at bs []) (sym e) (ends l.at)))
-
--- where nothing begins
-pub nothing_left : (bytes text : List ℕ) (tokens : List Token) → text ≢ [] → piece_at text ≡ nothing → IsLeft bytes text tokens → LexFails 0 bytes (length bytes - length text)
-nothing_left bytes text tokens some e l =
-    let start : l.at ≡ length bytes - length text = omega (arith, l.place) in subst (LexFails 0 bytes) start (l.refuses l.at (fails l.at text (nothing_read text some e)))
 
 -- the test whether anything is left
 pub is_some : (b : Bool) (text : List ℕ) → b ≡ eqb (length text) 0 → b ≡ false → text ≢ []
@@ -249,35 +197,3 @@ read_on (suc n) at (c ∷ cs) h = read_piece at (c ∷ cs) (not_empty c cs) (λ 
 
 pub some_reading : (bytes : List ℕ) → IsRead 0 bytes
 some_reading bytes = read_on (suc (length bytes)) 0 bytes (omega arith)
-
--- Where the tokens stand
-
-in_later : (bytes : List ℕ) (from low : ℕ) (tokens : List Token) → from ≤ low → AreIn bytes low tokens → AreIn bytes from tokens
-in_later bytes from low [] h are = tt
-in_later bytes from low (t ∷ tokens) h are = (omega (arith, h, are.0), are.1, are.2, are.3, are.4)
-
--- what stands between what is before and what follows
-middle : (done front rest : List ℕ) → slice_range (done ++ (front ++ rest)) (length done) (length done + length front) ≡ front
-middle done front rest =
-    let n : (length done + length front) - length done ≡ length front = omega arith in
-    ap (λ k. take k (drop (length done) (done ++ (front ++ rest)))) n ∙ ap (take (length front)) (drop-append_seam done (front ++ rest)) ∙ take-append_seam front rest
-
-lexes_in : (bytes done text : List ℕ) (at : ℕ) (tokens : List Token) → bytes ≡ done ++ text → at ≡ length done → Lexes at text tokens → AreIn bytes at tokens
-lexes_in bytes done text at tokens b a (ends _) = tt
-lexes_in bytes done text at tokens b a (skips _ _ front rest _ e h more) =
-    in_later bytes at (at + length front) tokens (omega arith)
-    (lexes_in bytes (done ++ front) rest (at + length front) tokens (b ∙ ap (λ bs. done ++ bs) e ∙ sym (append_assoc done front rest)) (omega (arith, a, length-append done front)) more)
-lexes_in bytes done text at tokens b a (takes _ _ front rest kind ts e h more) =
-    let here : bytes ≡ done ++ (front ++ rest) = b ∙ ap (λ bs. done ++ bs) e in
-    let cut : slice_range bytes at (at + length front) ≡ front = ap (λ bs. slice_range bs at (at + length front)) here
-    ∙ ap (λ n. slice_range (done ++ (front ++ rest)) n (n + length front)) a ∙ middle done front rest in
-    let some = text_length kind front h.begins.is_text in (
-      omega arith,
-      omega (arith, some),
-      omega (arith, a, ap length here, length-append done (front ++ rest), length-append front rest),
-      subst (IsTextOf kind) (sym cut) h.begins.is_text,
-      lexes_in bytes (done ++ front) rest (at + length front) ts (here ∙ sym (append_assoc done front rest)) (omega (arith, a, length-append done front)) more,
-    )
-
-pub tokens_in : (bytes : List ℕ) (tokens : List Token) → Lexes 0 bytes tokens → AreIn bytes 0 tokens
-tokens_in bytes tokens h = lexes_in bytes [] bytes 0 tokens refl refl h

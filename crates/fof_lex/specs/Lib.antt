@@ -3,3 +3,4 @@ pub mod Tokens
 pub mod Reading
 pub mod Views
 pub mod Refusal
+pub mod Lexer

@@ -163,6 +163,16 @@ pub data Lexes : ℕ → List ℕ → List Token → Type 0 where
   takes : (at : ℕ) (text front rest : List ℕ) (kind : Kind) (tokens : List Token) → text ≡ front ++ rest → IsLongest kind front rest
       → Lexes (at + length front) rest tokens → Lexes at text (record { kind = kind; start = at; end = at + length front } ∷ tokens)
 
+-- The text, which begins at the offset `at` of the whole, begins with these tokens, with blanks and comments before and between
+-- them, each the longest. Behind them `rest` is left, which begins at the offset `low`.
+pub data LexesUpTo : ℕ → List ℕ → List Token → ℕ → List ℕ → Type 0 where
+  here : (at : ℕ) (text : List ℕ) → LexesUpTo at text [] at text
+  behind_gap : (at : ℕ) (text front left : List ℕ) (tokens : List Token) (low : ℕ) (rest : List ℕ) → text ≡ front ++ left → IsGap front left
+      → LexesUpTo (at + length front) left tokens low rest → LexesUpTo at text tokens low rest
+  behind_token : (at : ℕ) (text front left : List ℕ) (kind : Kind) (tokens : List Token) (low : ℕ) (rest : List ℕ) → text ≡ front ++ left
+      → IsLongest kind front left → LexesUpTo (at + length front) left tokens low rest
+      → LexesUpTo at text (record { kind = kind; start = at; end = at + length front } ∷ tokens) low rest
+
 -- More of the text is there, and no blank, comment or token begins it.
 pub record BeginsNothing (text : List ℕ) : Type 0 where
   pub more : text ≢ []

@@ -1,11 +1,11 @@
 //! The tokens of a whole text.
 
-ghost use Rattle.std.specs.Prelude.{◌≡◌, ◌≤◌, ◌-◌, length, IfOk, IfErr};
+ghost use Rattle.std.specs.Prelude.{IfOk, IfErr};
 ghost use Rattle.fof_lex.specs.Tokens.{Lexes, AreIn};
 ghost use Rattle.fof_lex.specs.Refusal.{IsRefusal};
 
-use crate::piece::{Piece, piece_at};
-use crate::token::{Token, Tokens};
+use crate::lexer::Lexer;
+use crate::token::Tokens;
 use containers::Items;
 use std::alloc::{AllocError, Global};
 use thiserror::Error;
@@ -32,14 +32,6 @@ impl From<AllocError> for LexError {
     }
 }
 
-/// The offset of a part that ends where the text ends.
-fn offset_of(rest: &[u8], bytes: &[u8]) -> u64
-    requires { length rest.now ≤ length bytes.now }
-    ensures { result ≡ length bytes.now - length rest.now }
-{
-    (bytes.len() - rest.len()) as u64
-}
-
 /// The tokens of a text, the longest one at each place. Blanks and comments may stand between tokens.
 pub fn lex(alloc: Global, bytes: &[u8]) -> Result<Tokens, LexError>
     ensures tokens { IfOk result (λ tokens. Lexes 0 bytes.now tokens) }
@@ -47,21 +39,9 @@ pub fn lex(alloc: Global, bytes: &[u8]) -> Result<Tokens, LexError>
     ensures refused { IfErr result (IsRefusal bytes.now) }
 {
     let mut tokens = Items::new(alloc);
-    let mut rest = bytes;
-    'pieces: while !rest.is_empty() {
-        match piece_at(rest) {
-            Piece::Gap(behind) => rest = behind,
-            Piece::Token(kind, behind) => {
-                let start = offset_of(rest, bytes);
-                let end = offset_of(behind, bytes);
-                tokens.push(Token { kind, start, end })?;
-                rest = behind;
-            }
-            Piece::Nothing => {
-                let offset = offset_of(rest, bytes);
-                return Err(LexError::Bad { offset });
-            }
-        }
+    let mut lexer = Lexer::new(bytes);
+    'tokens: while let Some(token) = lexer.next_token()? {
+        tokens.push(token)?;
     }
     Ok(tokens)
 }

@@ -1,9 +1,10 @@
 use Rattle.std.proofs.Common.{length}
-use Rattle.fof_lex.proofs.Steps.{IsLeft}
+use Rattle.fof_lex.specs.Tokens.{LexesUpTo}
+use Rattle.fof_lex.specs.Lexer.{place}
 use Rattle.fof_lex.proofs.text.lex.Given as goal
 
-abbrev pub invariant-pieces : goal.invariant-pieces
-invariant-pieces l = IsLeft l.bytes l.rest l.tokens
+abbrev pub invariant-tokens : goal.invariant-tokens
+invariant-tokens l = LexesUpTo 0 l.bytes l.tokens (place l.lexer) l.lexer.rest
 
-abbrev pub decreases-pieces : goal.decreases-pieces
-decreases-pieces l = length l.rest
+abbrev pub decreases-tokens : goal.decreases-tokens
+decreases-tokens l = length l.lexer.rest
