@@ -1,8 +1,7 @@
 -- The problem of the statements so far, and of one more.
-use Rattle.std.proofs.Common.{◌≡◌, ◌+◌, suc, ℕ, Bool, true, false, cond, not, ◌||◌, List, [], ◌∷◌, ◌++◌, map, length, filter, Option, Some, None, refl, sym, ap, subst, ◌∙◌, arith, length-append, append-nil}
+use Rattle.std.proofs.Common.{◌≡◌, ℕ, Bool, true, false, cond, not, ◌||◌, List, [], ◌∷◌, ◌++◌, map, filter, Option, None, refl, sym, ap, subst, ◌∙◌, append-nil}
 use Rattle.std.specs.Prelude.{option_to_list}
 use Rattle.std.specs.List.{flat_map}
-use Rattle.std.proofs.lemmas.Bool.{false≢true}
 use Rattle.std.proofs.lemmas.Grind.{flat_map-append}
 use Rattle.std.proofs.lemmas.List.{map-append}
 use Rattle.std.proofs.lemmas.List.Elements.{filter-append}
@@ -12,8 +11,8 @@ use Rattle.fol_core.specs.Symbol.{Symbol as Known}
 use Rattle.fof_parse.specs.declared.refusal.BadKind.{BadKind}
 use Rattle.fof_parse.specs.Token.{Placed}
 use Rattle.fof_parse.specs.Grammar.{Sentence, Statement}
-use Rattle.fof_parse.specs.Problem.{PlainProblem, Label, empty_problem, is_conjecture, role_of, functions_in, predicates_in, InternsAll, IsPlain, ArePlain, AreLabels, formulas_in, IsProblemOf}
-use Rattle.fof_parse.specs.Refusal.{IsGood, IsBad, first_of, behind_first, AreGood, FirstBad, here, later}
+use Rattle.fof_parse.specs.Problem.{PlainProblem, Label, is_conjecture, functions_in, predicates_in, InternsAll, ArePlain, AreLabels, formulas_in, IsProblemOf}
+use Rattle.fof_parse.specs.Refusal.{IsGood, first_of, behind_first, AreGood, FirstBad, later}
 use Rattle.fof_parse.specs.Adding.{Places, Adds, Leads}
 use Rattle.fof_parse.proofs.Effects.{interns_all_keeps, interns_all-append, plain_kept}
 

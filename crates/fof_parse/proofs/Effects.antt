@@ -1,8 +1,8 @@
 -- What the parts of a formula add, one after the other.
-use Rattle.std.proofs.Common.{◌≡◌, ℕ, zero, suc, Bool, true, false, cond, ◌&&◌, ◌||◌, eqb, List, [], ◌∷◌, ◌++◌, map, length, Option, Some, None, refl, sym, ap, subst, ◌∙◌, ⊎_elim, append_assoc}
+use Rattle.std.proofs.Common.{◌≡◌, ℕ, zero, suc, Bool, true, false, cond, ◌&&◌, ◌||◌, eqb, List, [], ◌∷◌, ◌++◌, length, Option, Some, None, refl, sym, ap, subst, ◌∙◌, ⊎_elim}
+use Rattle.std.specs.Option.{is_some}
 use Rattle.std.specs.Prelude.{slice_get}
 use Rattle.std.proofs.lemmas.Bool.{false≢true, and_parts}
-use Rattle.std.proofs.lemmas.List.{map-append}
 use Rattle.fol_core.specs.Syntax.{PlainTerm, PlainTerms, PlainFormula}
 use Rattle.fol_core.specs.Syntax as syntax
 use Rattle.fol_core.specs.Symbol.{Symbol as Known, SymbolTable, IsAt, Interns}
@@ -10,9 +10,9 @@ use Rattle.fof_parse.specs.declared.refusal.BadKind.{BadKind}
 use Rattle.fof_parse.specs.declared.refusal.BadKind.TheVariants as kinds
 use Rattle.fof_parse.specs.Token.{unescaped, unescaped_from}
 use Rattle.fof_parse.specs.Grammar.{Symbol, word, defined, Term, variable, numeral, object, applied, Terms, no_terms, terms, Sentence, atom, equality, negation, binary, quantified}
-use Rattle.fof_parse.specs.Problem.{is_found, binder, is_closed_term, are_closed_terms, is_closed, count, known, functions_in_term, functions_in_terms, functions_in, predicates_in, InternsAll, IsPlainTerm, ArePlainTerms, truth, IsPlainAtom, IsPlain, plain_binary, plain_quantified}
-use Rattle.fof_parse.specs.Refusal.{or_else, symbol_fault, term_fault, terms_fault, atom_fault, element_fault}
-use Rattle.fof_parse.specs.Building.{State, Effect, TermBuilt, TermsBuilt, Built, IsVariable, IsFunctionHead, has_backslash}
+use Rattle.fof_parse.specs.Problem.{binder, is_closed_term, are_closed_terms, count, functions_in_term, functions_in_terms, InternsAll, IsPlainTerm, ArePlainTerms, IsPlain}
+use Rattle.fof_parse.specs.Refusal.{or_else, term_fault, terms_fault}
+use Rattle.fof_parse.specs.Building.{State, Effect, TermBuilt, TermsBuilt, IsVariable, IsFunctionHead, has_backslash}
 use Rattle.fof_parse.specs.Views.{terms_of_list}
 use Rattle.fol_core.specs.View.{terms_of_list as plain_list}
 
@@ -154,16 +154,16 @@ variable_built vs old new w t s f h =
       by_case None e c = record {
         effect = record {
           faults = f ∙ or_else-none old.fault;
-          closes = c ∙ and-false old.closed ∙ ap (λ o. old.closed && is_found o) (sym e);
+          closes = c ∙ and-false old.closed ∙ ap (λ o. old.closed && is_some o) (sym e);
           functions = ap (λ t. t.functions) s;
           predicates = ap (λ t. t.predicates) s;
         };
-        plain = λ none closed. absurd (false≢true (sym (ap is_found e) ∙ closed));
+        plain = λ none closed. absurd (false≢true (sym (ap is_some e) ∙ closed));
       }
       by_case (Some n) e c = record {
         effect = record {
           faults = f ∙ or_else-none old.fault;
-          closes = c.0 ∙ and-true old.closed ∙ ap (λ o. old.closed && is_found o) (sym e);
+          closes = c.0 ∙ and-true old.closed ∙ ap (λ o. old.closed && is_some o) (sym e);
           functions = ap (λ t. t.functions) s;
           predicates = ap (λ t. t.predicates) s;
         };

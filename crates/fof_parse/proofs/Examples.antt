@@ -1,5 +1,11 @@
 -- The definitions on small examples.
-use Rattle.std.proofs.Common.{◌≡◌, ℕ, Bool, true, false, List, [], ◌∷◌, ◌++◌, replicate, codes, Option, Some, None, refl}
+use Rattle.std.proofs.Common.{◌≡◌, ◌≤◌, ℕ, Bool, true, false, List, [], ◌∷◌, ◌++◌, replicate, codes, Option, Some, None, refl, arith}
+use Rattle.std.specs.List.{All}
+use Rattle.std.proofs.lemmas.List.Elements.{All-nil, All-cons}
+use Rattle.fol_core.specs.Syntax.{PlainFormula}
+use Rattle.fol_core.specs.Syntax as syntax
+use Rattle.fol_core.specs.Symbol.{SymbolTable, IsSymbolName}
+use Rattle.fof_parse.specs.declared.statement.Role.TheVariants.{Axiom, Conjecture}
 use Rattle.fof_parse.specs.declared.refusal.BadKind.{BadKind}
 use Rattle.fof_parse.specs.declared.refusal.BadKind.TheVariants as kinds
 use Rattle.fof_parse.specs.declared.token.Operator.TheVariants.{And, Or}
@@ -8,8 +14,10 @@ use Rattle.fof_parse.specs.declared.token.Equality.TheVariants.{Equal}
 use Rattle.fof_parse.specs.declared.token.Bracket.TheVariants.{Round, Square}
 use Rattle.fof_parse.specs.declared.token.Mark.TheVariants.{Open, Close, Comma, Stop, Colon, Not, Quantifier, Binary, Equality}
 use Rattle.fof_parse.specs.Token.{Token, lower, upper, dollar, number, distinct, marked, unescaped}
-use Rattle.fof_parse.specs.Nesting.{nesting}
-use Rattle.fof_parse.specs.Grammar.{Symbol, word, Sentence, Statement}
+use Rattle.fof_parse.specs.Grammar.{Statement}
+use Rattle.fof_parse.specs.Problem.{PlainProblem, Label}
+use Rattle.fof_parse.specs.WellFormed.{IsClosedOver}
+use Rattle.fof_parse.specs.Kept.{IsKept}
 use Rattle.fof_parse.specs.Refusal.{early_fault, late_fault}
 use Rattle.fof_parse.specs.Reading.{heading_at, statement_within, term_within, unit_within}
 
@@ -87,3 +95,58 @@ deep_row = refl
 -- an escaped quote and an escaped backslash
 escape_row : unescaped (codes "Bea O\\'Hara \\\\") ≡ codes "Bea O'Hara \\"
 escape_row = refl
+
+-- a constant `c`, and a predicate symbol `p` with one argument
+abbrev table : SymbolTable
+table = record { functions = (codes "c", 0) ∷ []; predicates = (codes "p", 1) ∷ [] }
+
+abbrev of_variable : PlainFormula
+of_variable = syntax.atom 0 (syntax.terms (syntax.bound 0) syntax.no_terms)
+
+abbrev of_constant : PlainFormula
+of_constant = syntax.atom 0 (syntax.terms (syntax.app 0 syntax.no_terms) syntax.no_terms)
+
+-- `![X]:p(X)` is closed
+closed_row : IsClosedOver table (syntax.all of_variable)
+closed_row = (refl, (omega arith, tt))
+
+-- `p(X)` alone is not, nor is `p` without an argument a formula of the table
+free_row : IsClosedOver table of_variable → ⊥
+free_row h = omega (arith, h.1.0)
+
+arity_row : IsClosedOver table (syntax.atom 0 syntax.no_terms) → ⊥
+arity_row h = omega (arith, h.0)
+
+-- `fof(a,axiom,p(c)).` and `fof(b,conjecture,![X]:p(X)).`
+abbrev label_a : Label
+label_a = record { name = codes "a"; role = Axiom }
+
+abbrev label_b : Label
+label_b = record { name = codes "b"; role = Conjecture }
+
+abbrev two_statements : PlainProblem
+two_statements = record { symbols = table; labels = label_a ∷ label_b ∷ []; axioms = of_constant ∷ []; conjecture = Some (syntax.all of_variable) }
+
+one_byte : (c : ℕ) → 32 ≤ c → c ≤ 126 → IsSymbolName (c ∷ [])
+one_byte c low high = (omega arith, All-cons (λ c. (32 ≤ c) × (c ≤ 126)) c [] (low, high) (All-nil (λ c. (32 ≤ c) × (c ≤ 126))))
+
+HasName : Label → Type 0
+HasName l = IsSymbolName l.name
+
+both_named : All HasName (label_a ∷ label_b ∷ [])
+unfolding HasName
+both_named = All-cons HasName label_a (label_b ∷ []) (one_byte 97 (omega arith) (omega arith)) (All-cons HasName label_b [] (one_byte 98 (omega arith) (omega arith)) (All-nil HasName))
+
+kept_row : IsKept two_statements
+unfolding HasName
+kept_row = record {
+  few_labels = omega arith;
+  few_axioms = omega arith;
+  few_functions = omega arith;
+  few_predicates = omega arith;
+  named = both_named;
+  axioms = All-cons (IsClosedOver table) of_constant [] (refl, ((refl, tt), tt)) (All-nil (IsClosedOver table));
+  conjecture = closed_row;
+  axiom_labels = refl;
+  conjecture_labels = refl;
+}

@@ -1,13 +1,13 @@
 -- What is read of a formula, from what is read of its parts.
-use Rattle.std.proofs.Common.{◌≡◌, ℕ, zero, suc, ◌<◌, ◌≤◌, true, cond, List, [], ◌∷◌, ◌++◌, length, Option, Some, None, refl, sym, ap, ◌∙◌, length-append, arith}
+use Rattle.std.proofs.Common.{◌≡◌, ℕ, zero, suc, ◌<◌, ◌≤◌, List, length, Option, Some, None, refl, ap, ◌∙◌, length-append, arith}
 use Rattle.fof_parse.specs.declared.token.Operator.{Operator}
 use Rattle.fof_parse.specs.declared.token.Quantifier.{Quantifier as Quantor}
 use Rattle.fof_parse.specs.declared.token.Equality.{Equality as Equation}
 use Rattle.fof_parse.specs.declared.token.Bracket.TheVariants.{Round, Square}
 use Rattle.fof_parse.specs.declared.token.Mark.TheVariants.{Open, Close, Comma, Colon}
 use Rattle.fof_parse.specs.Token.{Token}
-use Rattle.fof_parse.specs.Grammar.{Term, applied, Sentence, atom, equality, negation, binary, quantified}
-use Rattle.fof_parse.specs.Reading.{◌>>=◌, if_some, after_mark, one_token, Lead, negation_lead, group_lead, quantifier_lead, lead_of, equality_of, operator_of, variable_of, term_within, equated_by, atom_of, body_by, bound_by, scope_by, led_by, unit_by, next_operator, chain_by, unit_within, formula_within}
+use Rattle.fof_parse.specs.Grammar.{Term, Sentence, equality, negation, binary, quantified}
+use Rattle.fof_parse.specs.Reading.{◌>>=◌, if_some, after_mark, one_token, Lead, negation_lead, group_lead, quantifier_lead, lead_of, equality_of, variable_of, term_within, equated_by, atom_of, body_by, bound_by, scope_by, led_by, unit_by, next_operator, chain_by, unit_within, formula_within}
 use Rattle.fof_parse.specs.Parsing.{ReadsTerm, ReadsUnit, ReadsBody, ReadsBound, ReadsScope, ReadsFormula}
 use Rattle.fof_parse.proofs.Fronts.{enough}
 use Rattle.fof_parse.proofs.Forwards.{unit_step, chain_end, chain_step}

@@ -1,5 +1,5 @@
 -- Parts of a formula that are read and built, from their parts.
-use Rattle.std.proofs.Common.{◌≡◌, ℕ, List, [], ◌∷◌, ◌++◌, map, Option, Some, None, Bor, refl, sym, ap, subst, ◌∙◌}
+use Rattle.std.proofs.Common.{◌≡◌, ℕ, List, [], ◌∷◌, ◌++◌, Option, Some, None, Bor, refl, ap, subst, ◌∙◌}
 use Rattle.std.proofs.lemmas.List.{map-append}
 use Rattle.fol_core.specs.Syntax.{PlainFormula}
 use Rattle.fol_core.specs.Syntax as syntax
@@ -9,7 +9,7 @@ use Rattle.fof_parse.specs.declared.token.Equality.{Equality as Equation}
 use Rattle.fof_parse.specs.declared.token.Bracket.TheVariants.{Round, Square}
 use Rattle.fof_parse.specs.declared.token.Mark.TheVariants.{Open, Close}
 use Rattle.fof_parse.specs.Token.{Token}
-use Rattle.fof_parse.specs.Grammar.{Symbol, Term, applied, Terms, Sentence, atom, equality, negation, quantified}
+use Rattle.fof_parse.specs.Grammar.{Symbol, Term, applied, Terms, atom, equality, negation, quantified}
 use Rattle.fof_parse.specs.Problem.{plain_binary, plain_quantified}
 use Rattle.fof_parse.specs.Reading.{◌>>=◌, after_mark, one_token, negation_lead, group_lead, quantifier_lead, lead_of, equality_of, variable_of, atom_of, next_operator}
 use Rattle.fof_parse.specs.Parsing.{ReadsTerm, ReadsUnit, ReadsBound, ReadsScope, ReadsFormula, Parsed}

@@ -1,15 +1,13 @@
 -- What a whole statement is, from what is read of it.
-use Rattle.std.proofs.Common.{◌≡◌, ℕ, suc, ◌<◌, Bool, true, false, cond, ◌&&◌, List, [], ◌∷◌, length, Option, Some, None, refl, sym, ap, subst, ◌∙◌, arith}
-use Rattle.std.proofs.lemmas.Bool.{false≢true}
+use Rattle.std.proofs.Common.{◌≡◌, ℕ, suc, Bool, true, false, ◌&&◌, List, [], length, Some, None, refl, sym, ap, subst, ◌∙◌, arith}
 use Rattle.fol_core.specs.Syntax.{PlainFormula}
 use Rattle.fof_parse.specs.declared.refusal.BadKind.{BadKind}
-use Rattle.fof_parse.specs.declared.refusal.BadKind.TheVariants as kinds
 use Rattle.fof_parse.specs.declared.statement.Role.{Role}
 use Rattle.fof_parse.specs.Token.{Token}
-use Rattle.fof_parse.specs.Grammar.{Statement, IsStatement}
+use Rattle.fof_parse.specs.Grammar.{Statement}
 use Rattle.fof_parse.specs.Problem.{role_of, is_closed}
-use Rattle.fof_parse.specs.Refusal.{or_else, element_fault, early_fault, late_fault, IsGood, IsBad, is_late}
-use Rattle.fof_parse.specs.Reading.{◌>>=◌, heading_at, formula_within, is_ending, statement_within}
+use Rattle.fof_parse.specs.Refusal.{or_else, element_fault, early_fault, late_fault, IsBad, is_late}
+use Rattle.fof_parse.specs.Reading.{heading_at, is_ending, statement_within}
 use Rattle.fof_parse.specs.Parsing.{ReadsFormula, Parsed}
 use Rattle.fof_parse.specs.Building.{State, Built}
 use Rattle.fof_parse.specs.Verdict.{StatementRead, IsNoStatement, judged, GoodRead}

@@ -15,5 +15,11 @@ pub mod Judging
 pub mod Adding
 pub mod Taking
 pub mod Pieces
+pub mod Chunks
 pub mod Once
+pub mod Lengths
+pub mod Named
+pub mod Closed
+pub mod Kept
 mod Examples
+pub mod Apart

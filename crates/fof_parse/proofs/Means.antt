@@ -1,6 +1,7 @@
 -- What formulas add and mean, from what their parts do.
-use Rattle.std.proofs.Common.{◌≡◌, ℕ, ◌<◌, Bool, true, false, cond, not, ◌&&◌, List, [], ◌∷◌, ◌++◌, length, Option, Some, None, refl, sym, ap, subst, ◌∙◌, arith}
-use Rattle.std.proofs.lemmas.Bool.{false≢true, and_parts}
+use Rattle.std.proofs.Common.{◌≡◌, ℕ, ◌<◌, true, not, List, [], ◌∷◌, ◌++◌, length, Option, Some, None, refl, sym, ap, subst, ◌∙◌, arith}
+use Rattle.std.specs.Option.{is_some}
+use Rattle.std.proofs.lemmas.Bool.{and_parts}
 use Rattle.fol_core.specs.Syntax.{PlainTerm, PlainTerms, PlainFormula}
 use Rattle.fol_core.specs.Syntax as syntax
 use Rattle.fol_core.specs.Symbol.{IsAt, Interns}
@@ -9,9 +10,9 @@ use Rattle.fof_parse.specs.declared.refusal.BadKind.TheVariants as kinds
 use Rattle.fof_parse.specs.declared.token.Operator.{Operator}
 use Rattle.fof_parse.specs.declared.token.Quantifier.{Quantifier as Quantor}
 use Rattle.fof_parse.specs.declared.token.Equality.{Equality as Equation}
-use Rattle.fof_parse.specs.Grammar.{Symbol, word, defined, Term, Terms, no_terms, terms, Sentence, atom, equality, negation, binary, quantified}
+use Rattle.fof_parse.specs.Grammar.{word, defined, Term, Terms, no_terms, terms, Sentence, atom, equality, negation, binary, quantified}
 use Rattle.fof_parse.specs.Problem.{is_closed_term, are_closed_terms, is_closed, count, functions_in_term, functions_in_terms, functions_in, predicates_in, truth, plain_binary, plain_quantified}
-use Rattle.fof_parse.specs.Refusal.{or_else, fault_if, is_truth, term_fault, terms_fault, element_fault}
+use Rattle.fof_parse.specs.Refusal.{or_else, fault_if, term_fault, terms_fault, element_fault}
 use Rattle.fof_parse.specs.Building.{State, Effect, TermBuilt, TermsBuilt, Built}
 use Rattle.fof_parse.specs.Token.{Token}
 use Rattle.fof_parse.specs.Reading.{next_operator}
@@ -68,7 +69,7 @@ truth_built vs s w us a h =
     by_terms us h (truth_alone w us a h) where
       by_terms : (us : Terms) → truth w us ≡ Some a → us ≡ no_terms → Built vs s s (atom (defined w) us) a
       by_terms no_terms h e = record {
-        effect = subst (λ k. Effect s s k true [] []) (sym (ap (λ (o : Option PlainFormula). fault_if (not (is_truth o)) kinds.Dollar) h)) (effect_none s);
+        effect = subst (λ k. Effect s s k true [] []) (sym (ap (λ (o : Option PlainFormula). fault_if (not (is_some o)) kinds.Dollar) h)) (effect_none s);
         plain = λ none closed. h;
       }
       by_terms (terms u us) h e = cc
@@ -77,7 +78,7 @@ truth_built vs s w us a h =
 pub dollar_built : (vs : List (List ℕ)) (old mid new : State) (w : List ℕ) (us : Terms) (ts : PlainTerms) (a : PlainFormula) → truth w us ≡ None → mid.fault ≡ or_else old.fault (Some kinds.Dollar)
     → mid.symbols ≡ old.symbols → mid.closed ≡ old.closed → TermsBuilt vs mid new us ts → Built vs old new (atom (defined w) us) a
 dollar_built vs old mid new w us ts a none f s c h =
-    let e : element_fault (atom (defined w) us) ≡ Some kinds.Dollar = ap (λ (o : Option PlainFormula). fault_if (not (is_truth o)) kinds.Dollar) none in
+    let e : element_fault (atom (defined w) us) ≡ Some kinds.Dollar = ap (λ (o : Option PlainFormula). fault_if (not (is_some o)) kinds.Dollar) none in
     record {
       effect = subst (λ k. Effect old new k (are_closed_terms vs us) (functions_in_terms us) []) (sym e)
           (effect_then old mid new (Some kinds.Dollar) (terms_fault us) true (are_closed_terms vs us) [] (functions_in_terms us) [] [] (effect_fault old mid kinds.Dollar f s c) h.effect);

@@ -1,17 +1,16 @@
 -- A text is the text of one problem.
-use Rattle.std.proofs.Common.{◌≡◌, ℕ, zero, suc, Bool, ◌||◌, List, [], ◌∷◌, ◌++◌, length, map, Option, Some, None, refl, sym, ap, subst, ◌∙◌, arith, ⊎_elim, ◌⊎◌, inl, inr, not}
-use Rattle.std.specs.Prelude.{slice_get, option_to_list}
+use Rattle.std.proofs.Common.{◌≡◌, ℕ, zero, suc, Bool, ◌||◌, List, [], ◌∷◌, ◌++◌, length, map, Option, Some, None, refl, sym, ap, subst, ◌∙◌, ⊎_elim, ◌⊎◌, inl, inr, not}
+use Rattle.std.specs.Prelude.{option_to_list}
 use Rattle.std.specs.List.{flat_map}
 use Rattle.fol_core.specs.Syntax.{PlainTerm, PlainTerms, PlainFormula}
 use Rattle.fol_core.specs.Syntax as syntax
 use Rattle.fol_core.specs.Symbol.{SymbolTable, IsAt, IsNowhere, Interns}
 use Rattle.fol_core.specs.Symbol.{Symbol as Known}
 use Rattle.fof_lex.proofs.Steps.{one_list}
-use Rattle.fof_parse.specs.declared.statement.Role.{Role}
 use Rattle.fof_parse.specs.Token.{Placed, placed}
-use Rattle.fof_parse.specs.Grammar.{Symbol, word, defined, Term, variable, numeral, object, applied, Terms, no_terms, terms, Sentence, atom, equality, negation, binary, quantified, Statement}
-use Rattle.fof_parse.specs.Problem.{PlainProblem, Label, role_of, is_conjecture, count, functions_in, predicates_in, InternsAll, plain_binary, plain_quantified, IsPlainTerm, ArePlainTerms, IsPlainAtom, IsPlain, ArePlain, AreLabels, formulas_in, IsProblemOf}
-use Rattle.fof_parse.specs.Refusal.{IsGood, AreGood, first_of, behind_first}
+use Rattle.fof_parse.specs.Grammar.{word, defined, Term, variable, numeral, object, applied, Terms, no_terms, terms, Sentence, atom, equality, negation, binary, quantified, Statement}
+use Rattle.fof_parse.specs.Problem.{PlainProblem, Label, role_of, is_conjecture, count, functions_in, predicates_in, InternsAll, plain_binary, plain_quantified, IsPlainTerm, ArePlainTerms, IsPlain, ArePlain, AreLabels, formulas_in, IsProblemOf}
+use Rattle.fof_parse.specs.Refusal.{AreGood, first_of, behind_first}
 use Rattle.fof_parse.specs.TheProblem.{IsProblemText, IsTheProblem}
 use Rattle.fof_parse.proofs.Statements.{one_statement}
 

@@ -1,18 +1,16 @@
 -- The first statement of a text as a part of its tokens.
-use Rattle.std.proofs.Common.{◌≡◌, ℕ, zero, suc, Bool, true, false, cond, List, [], ◌∷◌, map, length, take, drop, length-drop, ◌<◌, ◌≤◌, Option, Some, None, refl, sym, ap, ◌∙◌, subst, arith}
+use Rattle.std.proofs.Common.{◌≡◌, ℕ, suc, Bool, true, false, cond, List, [], ◌∷◌, map, take, drop, Some, None, refl, sym, ap, ◌∙◌, subst}
 use Rattle.fof_lex.specs.declared.token.Connective.TheVariants.{Equivalent, NotEquivalent, Implies, ImpliedBy, NotAnd, NotOr, NotEqual}
-use Rattle.fof_lex.specs.declared.token.Mark.{Mark}
 use Rattle.fof_lex.specs.declared.token.Mark.TheVariants.{OpenParenthesis, CloseParenthesis, OpenBracket, CloseBracket, OpenBrace, CloseBrace, Comma, Stop, Colon, Semicolon, Exclamation, Question, Tilde, Ampersand, Bar, Equals, Less, Greater, At, Caret, Plus, Minus, Star, Slash, Backslash, Hash}
 use Rattle.fof_lex.specs.declared.token.Kind.{Kind}
 use Rattle.fof_lex.specs.declared.token.Kind.TheVariants.{LowerWord, UpperWord, Quoted, DistinctObject, DollarWord, Number, Connective as of_connective, Mark as of_mark}
 use Rattle.fof_lex.specs.declared.token.Token.{Token as LexToken}
-use Rattle.fof_parse.specs.Token.{Placed, placed, token_of, token_in}
+use Rattle.fof_parse.specs.Token.{placed, token_of, token_in}
 use Rattle.fof_parse.specs.Grammar.{is_stop}
 use Rattle.fof_parse.specs.Refusal.{first_of, behind_first}
-use Rattle.fof_parse.specs.Text.{AreAllIn, tokens_in}
+use Rattle.fof_parse.specs.Text.{tokens_in}
 use Rattle.fof_parse.specs.Chunks.{is_stop_kind, statement_len, has_conjecture, Takes, ReadSoFar}
 use Rattle.std.specs.Prelude.{slice_get}
-use Rattle.fof_lex.specs.Tokens.{AreIn as Found}
 use Rattle.fof_parse.specs.declared.refusal.BadKind.{BadKind}
 use Rattle.fof_parse.specs.Grammar.{Statement}
 use Rattle.fof_parse.specs.Problem.{PlainProblem, IsProblemOf}
@@ -83,23 +81,6 @@ second_part bytes (t ∷ ts) =
       split true h = refl
       split false h = h
 
-pub statement_len_le : (ts : List LexToken) → statement_len ts ≤ length ts
-statement_len_le [] = omega arith
-statement_len_le (t ∷ ts) = split (is_stop_kind t.kind) (statement_len_le ts) where
-  split : (c : Bool) → statement_len ts ≤ length ts → cond c 1 (suc (statement_len ts)) ≤ suc (length ts)
-  split true h = omega arith
-  split false h = omega (arith, h)
-
-pub all_in_take : (bytes : List ℕ) (n : ℕ) (ts : List LexToken) → AreAllIn bytes ts → AreAllIn bytes (take n ts)
-all_in_take bytes zero ts h = tt
-all_in_take bytes (suc n) [] h = tt
-all_in_take bytes (suc n) (t ∷ ts) h = (h.0, all_in_take bytes n ts h.1)
-
-pub all_in_drop : (bytes : List ℕ) (n : ℕ) (ts : List LexToken) → AreAllIn bytes ts → AreAllIn bytes (drop n ts)
-all_in_drop bytes zero ts h = h
-all_in_drop bytes (suc n) [] h = tt
-all_in_drop bytes (suc n) (t ∷ ts) h = all_in_drop bytes n ts h.1
-
 pub from_first : (ts : List LexToken) (t : LexToken) → slice_get ts 0 ≡ Some t → ts ≡ t ∷ drop 1 ts
 from_first [] t h = cc
 from_first (x ∷ ts) t h = let e : x ≡ t = cc (h) in ap (λ y. y ∷ ts) e
@@ -128,20 +109,7 @@ module _ (bytes : List ℕ) (tokens rest front : List LexToken) (n : ℕ) (first
       (subst (λ us. ReadSoFar (map (placed bytes) tokens) us old) begins_placed so_far) front_is
       (ap behind_first (sym begins_placed) ∙ second_part bytes rest ∙ ap (λ m. map (placed bytes) (drop m rest)) (sym count) ∙ ap (map (placed bytes)) (sym behind)) h
 
-  pub shorter : (back : List LexToken) → back ≡ drop n rest → length back < length rest
-  shorter back behind =
-      let e : 0 < statement_len rest = subst (λ us. 0 < statement_len us) (sym (from_first rest first begins)) (some (is_stop_kind first.kind)) in
-      omega (arith, ap length behind, length-drop n rest, e, count, ap length (from_first rest first begins)) where
-        some : (b : Bool) → 0 < cond b 1 (suc (statement_len (drop 1 rest)))
-        some true = omega arith
-        some false = omega arith
-
 pub whole : (bytes : List ℕ) (tokens rest : List LexToken) (problem : PlainProblem) → ReadSoFar (map (placed bytes) tokens) (map (placed bytes) rest) problem → slice_get rest 0 ≡ None
     → (sts : List Statement) × AreGood false (map (placed bytes) tokens) sts × IsProblemOf sts problem
 whole bytes tokens rest problem s h =
     whole_text (map (placed bytes) tokens) problem (subst (λ us. ReadSoFar (map (placed bytes) tokens) us problem) (ap (map (placed bytes)) (nothing_left rest h)) s)
-
--- the tokens that were found stand in the bytes
-pub found_in : (bytes : List ℕ) (from : ℕ) (ts : List LexToken) → Found bytes from ts → AreAllIn bytes ts
-found_in bytes from [] h = tt
-found_in bytes from (t ∷ ts) h = (record { some = h.1; within = h.2; is_text = h.3 }, found_in bytes t.end ts h.4)

@@ -1,22 +1,21 @@
 -- A statement without a fault is put into the problem.
-use Rattle.std.proofs.Common.{◌≡◌, ◌≢◌, ℕ, suc, ◌+◌, ◌<◌, ◌≤◌, Bool, true, false, cond, not, ◌&&◌, ◌||◌, List, [], ◌∷◌, ◌++◌, map, length, take, drop, Option, Some, None, refl, sym, ap, subst, ◌∙◌, arith}
+use Rattle.std.proofs.Common.{◌≡◌, ℕ, Bool, true, false, not, ◌&&◌, ◌||◌, List, [], ◌∷◌, ◌++◌, Option, Some, None, refl, sym, ap, subst, ◌∙◌}
 use Rattle.std.proofs.lemmas.Bool.{false≢true}
 use Rattle.std.specs.Prelude.{option_map}
 use Rattle.std.specs.Option.{is_some}
 use Rattle.fol_core.specs.View.{formula_of}
 use Rattle.fol_core.specs.declared.formula.Formula.{Formula}
 use Rattle.fol_core.specs.Syntax.{PlainFormula}
-use Rattle.fof_lex.specs.declared.token.Token.{Token as LexToken}
 use Rattle.fof_parse.specs.declared.refusal.BadKind.{BadKind}
 use Rattle.fof_parse.specs.declared.refusal.BadKind.TheVariants as kinds
 use Rattle.fof_parse.specs.declared.statement.Role.{Role}
-use Rattle.fof_parse.specs.Token.{Token, Placed, placed, token_in}
+use Rattle.fof_parse.specs.Token.{Token, Placed}
 use Rattle.fof_parse.specs.Grammar.{Statement}
-use Rattle.fof_parse.specs.Problem.{PlainProblem, Label, empty_problem, role_of, is_conjecture_role, is_conjecture, is_closed, functions_in, predicates_in, InternsAll, IsPlain, IsProblemOf}
-use Rattle.fof_parse.specs.Refusal.{or_else, fault_if, is_truth, is_role, element_fault, late_fault, IsGood, IsBad, AreGood, FirstBad, here, first_of, behind_first}
-use Rattle.fof_parse.specs.Building.{State, Built}
+use Rattle.fof_parse.specs.Problem.{PlainProblem, Label, empty_problem, is_conjecture_role, is_conjecture, is_closed, functions_in, predicates_in, InternsAll, IsPlain, IsProblemOf}
+use Rattle.fof_parse.specs.Refusal.{fault_if, is_role, element_fault, late_fault, IsGood, IsBad, AreGood, FirstBad, here, first_of, behind_first}
+use Rattle.fof_parse.specs.Building.{State}
 use Rattle.fof_parse.specs.Verdict.{GoodRead}
-use Rattle.fof_parse.specs.Adding.{Places, Adds, Leads}
+use Rattle.fof_parse.specs.Adding.{Places, Leads}
 use Rattle.fof_parse.specs.Chunks.{Puts, has_conjecture, Takes, ReadSoFar}
 use Rattle.fof_parse.proofs.Effects.{or_else-parts}
 use Rattle.fof_parse.proofs.Adding.{problem_of_one_more, leads_more, all_good, first_bad}
@@ -76,16 +75,16 @@ nothing_so_far ts problem e = subst (ReadSoFar ts ts) (sym e) (record {
 
 -- the conjecture of one statement more
 conjecture_more : (b : Bool) (a : PlainFormula) (old new : PlainProblem) → Places b a old new → (has_conjecture old || b) ≡ has_conjecture new
-conjecture_more false a old new p = or_none (has_conjecture old) ∙ ap (λ (o : Option PlainFormula). is_truth o) (sym p.1) where
+conjecture_more false a old new p = or_none (has_conjecture old) ∙ ap (λ (o : Option PlainFormula). is_some o) (sym p.1) where
   or_none : (c : Bool) → (c || false) ≡ c
   or_none true = refl
   or_none false = refl
-conjecture_more true a old new p = or_all (has_conjecture old) ∙ ap (λ (o : Option PlainFormula). is_truth o) (sym p.1) where
+conjecture_more true a old new p = or_all (has_conjecture old) ∙ ap (λ (o : Option PlainFormula). is_some o) (sym p.1) where
   or_all : (c : Bool) → (c || true) ≡ true
   or_all true = refl
   or_all false = refl
 
-no_conjecture : (o : Option PlainFormula) → is_truth o ≡ false → o ≡ None
+no_conjecture : (o : Option PlainFormula) → is_some o ≡ false → o ≡ None
 no_conjecture None h = refl
 no_conjecture (Some a) h = absurd (false≢true (sym h))
 
@@ -114,6 +113,6 @@ bad_statement ts t rest front old k s first bad =
 pub whole_text : (ts : List Placed) (problem : PlainProblem) → ReadSoFar ts [] problem → (sts : List Statement) × AreGood false ts sts × IsProblemOf sts problem
 whole_text ts problem s = (s.done, all_good false ts s.done (has_conjecture problem) s.leads, s.meaning)
 
-pub has_as : (o : Option Formula) → is_some o ≡ is_truth (option_map formula_of o)
+pub has_as : (o : Option Formula) → is_some o ≡ is_some (option_map formula_of o)
 has_as None = refl
 has_as (Some f) = refl

@@ -1,5 +1,5 @@
 -- The tokens of a text, one after the other.
-use Rattle.std.proofs.Common.{◌≡◌, ◌≢◌, ℕ, zero, suc, ◌+◌, ◌-◌, ◌<◌, ◌≤◌, Bool, true, false, cond, ◌&&◌, eqb, List, [], ◌∷◌, ◌++◌, length, map, take, drop, length-append, Option, Some, None, refl, sym, ap, subst, ◌∙◌, arith}
+use Rattle.std.proofs.Common.{◌≡◌, ◌≢◌, ℕ, zero, suc, ◌+◌, ◌-◌, ◌<◌, ◌≤◌, true, false, cond, eqb, List, [], ◌∷◌, ◌++◌, length, map, take, drop, length-append, Option, Some, None, refl, sym, ap, subst, ◌∙◌, arith}
 use Rattle.std.specs.Prelude.{slice_get}
 use Rattle.std.specs.List.{slice_range, list_all}
 use Rattle.fof_lex.specs.declared.token.Token.{Token as LexToken}
@@ -97,7 +97,7 @@ quoted_name : {w : List ℕ} → IsQuoted w → IsSymbolName (unescaped (between
 quoted_name (quoted body some h) =
     subst (λ b. IsSymbolName (unescaped b)) (sym (between_quotes body)) (body_some h some, body_bytes h)
 
-proper_of : (k : Kind) (text : List ℕ) → IsTextOf k text → IsProper (token_of k text)
+pub proper_of : (k : Kind) (text : List ℕ) → IsTextOf k text → IsProper (token_of k text)
 proper_of LowerWord text h = lower_name h
 proper_of UpperWord text h = tt
 proper_of Quoted text h = quoted_name h

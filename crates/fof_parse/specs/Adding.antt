@@ -1,5 +1,5 @@
 -- One statement more.
-use Rattle.std.specs.Prelude.{◌≡◌, ◌||◌, ℕ, Bool, true, false, List, [], ◌∷◌, ◌++◌, Some, None, Option}
+use Rattle.std.specs.Prelude.{◌≡◌, ◌||◌, Bool, true, false, List, [], ◌∷◌, ◌++◌, Some}
 use Rattle.fol_core.specs.Syntax.{PlainFormula}
 use Rattle.fof_parse.specs.Token.{Placed}
 use Rattle.fof_parse.specs.Grammar.{Statement}

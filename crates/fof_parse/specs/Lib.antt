@@ -5,12 +5,16 @@ pub mod Problem
 pub mod Reading
 pub mod Refusal
 pub mod TheProblem
+pub mod WellFormed
+pub mod Kept
+pub mod KeptOnce
 pub mod Text
 pub mod Views
 pub mod Parsing
 pub mod Building
 pub mod Verdict
 pub mod Adding
+pub mod ProblemParts
 pub mod ProblemView
 pub mod Chunks
 pub mod Refused

@@ -1,5 +1,6 @@
 -- What a statement says: its symbols, its formula, and its place in the problem.
-use Rattle.std.specs.Prelude.{◌≡◌, ℕ, suc, Bool, true, false, not, ◌&&◌, ◌||◌, if◌then◌else◌, List, [], ◌∷◌, ◌++◌, length, map, filter, codes, Option, Some, None, option_to_list}
+use Rattle.std.specs.Prelude.{◌≡◌, ℕ, suc, Bool, true, false, not, ◌&&◌, if◌then◌else◌, List, [], ◌∷◌, ◌++◌, length, map, filter, codes, Option, Some, None, option_to_list}
+use Rattle.std.specs.Option.{is_some}
 use Rattle.std.specs.List.{flat_map}
 use Rattle.std.specs.Str.{bytes_eq}
 use Rattle.fol_core.specs.Syntax.{PlainTerm, PlainTerms, PlainFormula}
@@ -48,14 +49,10 @@ abbrev pub binder : List (List ℕ) → List ℕ → Option ℕ
 binder [] w = None
 binder (v ∷ vs) w = later_or (binder vs w) (if bytes_eq v w then Some (length vs) else None)
 
-abbrev pub is_found : Option ℕ → Bool
-is_found None = false
-is_found (Some n) = true
-
 -- whether each variable stands in the scope of a quantifier that names it
 abbrev mutual
   pub is_closed_term : List (List ℕ) → Term → Bool
-  is_closed_term vs (variable w) = is_found (binder vs w)
+  is_closed_term vs (variable w) = is_some (binder vs w)
   is_closed_term vs (numeral w) = true
   is_closed_term vs (object w) = true
   is_closed_term vs (applied f us) = are_closed_terms vs us

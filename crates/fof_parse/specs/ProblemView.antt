@@ -1,18 +1,11 @@
--- The plain problem that a `Problem` of the program stands for.
-use Rattle.std.specs.Prelude.{map, option_map}
-use Rattle.fol_core.specs.View.{formula_of, formulas_of}
-use Rattle.fof_parse.specs.Problem.{Label, PlainProblem}
+-- The plain problem that a `Problem` or its `Contents` stand for.
+use Rattle.fof_parse.specs.Problem.{PlainProblem}
+use Rattle.fof_parse.specs.ProblemParts.{plain_parts}
+use Rattle.fof_parse.specs.declared.contents.Contents.{Contents}
 use Rattle.fof_parse.specs.declared.problem.Problem.{Problem}
-use Rattle.fof_parse.specs.declared.problem.Statement.{Statement}
 
-abbrev pub plain_label : Statement → Label
-plain_label st = record { name = st.name; role = st.role }
+abbrev pub plain_contents : Contents → PlainProblem
+plain_contents c = plain_parts c.symbols c.statements c.axioms c.conjecture
 
 abbrev pub plain_problem : Problem → PlainProblem
-plain_problem p =
-    record {
-      symbols = p.symbols;
-      labels = map plain_label p.statements;
-      axioms = formulas_of p.axioms;
-      conjecture = option_map formula_of p.conjecture;
-    }
+plain_problem p = plain_parts p.symbols p.statements p.axioms p.conjecture

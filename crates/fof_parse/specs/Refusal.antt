@@ -1,5 +1,6 @@
 -- Which statements are refused.
-use Rattle.std.specs.Prelude.{◌≡◌, ℕ, Bool, true, false, not, ◌&&◌, ◌||◌, nat_lt, if◌then◌else◌, List, [], ◌∷◌, codes, Option, Some, None}
+use Rattle.std.specs.Prelude.{◌≡◌, ℕ, Bool, not, ◌&&◌, ◌||◌, nat_lt, if◌then◌else◌, List, [], ◌∷◌, codes, Option, Some, None}
+use Rattle.std.specs.Option.{is_some}
 use Rattle.std.specs.Str.{bytes_eq}
 use Rattle.fof_parse.specs.declared.refusal.BadKind.{BadKind}
 use Rattle.fof_parse.specs.declared.refusal.BadKind.TheVariants.{Include, Language, TooDeep, Syntax, Equality, Number, Distinct, Dollar, Role, FreeVariable, SecondConjecture}
@@ -44,13 +45,9 @@ abbrev mutual
   terms_fault no_terms = None
   terms_fault (terms u us) = or_else (term_fault u) (terms_fault us)
 
-abbrev pub is_truth : {A : Type 0} → Option A → Bool
-is_truth None = false
-is_truth (Some a) = true
-
 abbrev pub atom_fault : Symbol → Terms → Option BadKind
 atom_fault (word w) us = terms_fault us
-atom_fault (defined w) us = fault_if (not (is_truth (truth w us))) Dollar
+atom_fault (defined w) us = fault_if (not (is_some (truth w us))) Dollar
 
 abbrev pub element_fault : Sentence → Option BadKind
 element_fault (atom p us) = atom_fault p us
@@ -60,7 +57,7 @@ element_fault (binary op s t) = or_else (element_fault s) (element_fault t)
 element_fault (quantified q w s) = element_fault s
 
 abbrev pub is_role : List ℕ → Bool
-is_role w = is_truth (role_of w)
+is_role w = is_some (role_of w)
 
 -- The first fault of a statement by the grammar, where the flag says that an earlier statement is a conjecture.
 abbrev pub late_fault : Bool → Statement → Option BadKind

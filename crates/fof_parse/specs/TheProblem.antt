@@ -25,6 +25,10 @@ pub record IsTheProblem (bytes : List ℕ) (problem : PlainProblem) : Type 0 whe
   pub is_text : IsProblemText bytes problem
   pub only : (other : PlainProblem) → IsProblemText bytes other → other ≡ problem
 
+-- The text is no problem's.
+abbrev pub IsNoProblem : List ℕ → Type 0
+IsNoProblem bytes = (problem : PlainProblem) → IsProblemText bytes problem → ⊥
+
 pub record IsBadText (bytes : List ℕ) (at : ℕ) (k : BadKind) : Type 0 where
   pub within : length bytes ≤ most_bytes
   pub tokens : List LexToken

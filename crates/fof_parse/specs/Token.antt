@@ -1,5 +1,5 @@
 -- The tokens of a text, as the grammar tells them apart.
-use Rattle.std.specs.Prelude.{ℕ, ◌-◌, Bool, true, false, eqb, if◌then◌else◌, List, [], ◌∷◌, length, map, Option, Some, None}
+use Rattle.std.specs.Prelude.{ℕ, ◌-◌, Bool, true, false, eqb, if◌then◌else◌, List, [], ◌∷◌, length, Option, Some, None}
 use Rattle.std.specs.List.{slice_range}
 use Rattle.fof_lex.specs.declared.token.Connective.{Connective}
 use Rattle.fof_lex.specs.declared.token.Connective.TheVariants as connectives

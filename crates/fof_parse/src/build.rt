@@ -190,7 +190,7 @@ pub fn terms(
     requires { AreProperTerms (raws_of raws.now) }
     ensures { IfOk result (λ ts. TermsBuilt (names scope.now) (state_of draft.old) (state_of draft.new) (raws_of raws.now) (terms_of ts)) }
 {
-    let mut out = Items::new(alloc);
+    let mut out = Items::from_vec(Vec::with_capacity(alloc, raws.len())?);
     for raw in raws.as_slice() {
         let term = term(alloc, draft, scope, raw)?;
         out.push(term)?;

@@ -110,7 +110,8 @@ fn next_operator(text: &Text<'_>, by: Option<Operator>, at: usize) -> Option<Ope
     if can_join(by, op) { Some(op) } else { None }
 }
 
-fn negated(alloc: Global, formula: Formula) -> Result<Formula, AllocError>
+/// The negation of a formula.
+pub fn negated(alloc: Global, formula: Formula) -> Result<Formula, AllocError>
     ensures { IfOk result (λ f. formula_of f ≡ not (formula_of formula)) }
 {
     Ok(Formula::Not(Boxed::new(alloc, formula)?))

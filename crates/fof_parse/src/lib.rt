@@ -3,12 +3,15 @@
 
 mod atom;
 mod build;
+mod contents;
 mod ending;
 mod formula;
+mod law;
 mod lines;
 mod problem;
 mod read;
 mod refusal;
+mod start;
 mod statement;
 mod term;
 mod text;
@@ -16,10 +19,12 @@ mod token;
 mod verdict;
 
 pub use ending::MAX_NESTING;
+pub use law::one_answer;
 pub use lines::refusal_line;
-pub use problem::{Problem, Statement, Statements, start_list};
+pub use problem::{Problem, Statement, Statements};
 pub use read::{MAX_BYTES, ReadError, read_problem};
 pub use refusal::BadKind;
+pub use start::{into_start_list, start_list};
 pub use statement::Role;
 
 #[cfg(test)]

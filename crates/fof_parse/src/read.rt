@@ -1,16 +1,18 @@
 //! Reading a problem's text.
 
-ghost use Rattle.std.specs.Prelude.{◌≡◌, ◌↔◌, ◌<◌, [], length, MatchResult, IfOk, IfErr, IsErrOf};
-ghost use Rattle.fof_lex.specs.declared.token.Token.{Token as LexToken};
-ghost use Rattle.fof_parse.specs.TheProblem.{IsTheProblem};
+ghost use Rattle.std.specs.Prelude.{◌≡◌, ◌≢◌, ◌↔◌, ◌<◌, ◌≤◌, length, IfOk, IfErr, OnOk, IsErrOf, ◌+◌};
+ghost use Rattle.fof_lex.specs.Lexer.{place};
+ghost use Rattle.fof_lex.specs.Refusal.{IsRefusalAt};
+ghost use Rattle.fof_parse.specs.TheProblem.{IsProblemText, IsTheProblem, IsNoProblem};
 ghost use Rattle.fof_parse.specs.Text.{AreAllIn};
-ghost use Rattle.fof_parse.specs.ProblemView.{plain_problem};
-ghost use Rattle.fof_parse.specs.Chunks.{statement_len};
-ghost use Rattle.fof_parse.specs.Refused.{IsReadOf, IsRefusedAt, Refuses};
+ghost use Rattle.fof_parse.specs.ProblemView.{plain_contents, plain_problem};
+ghost use Rattle.fof_parse.specs.Chunks.{is_stop_kind, IsNext};
+ghost use Rattle.fof_parse.specs.Refused.{Refuses};
 
-use crate::problem::{Problem, empty_problem, with_statement};
+use crate::contents::{Contents, empty_contents, problem_of, with_statement};
+use crate::problem::Problem;
 use crate::refusal::BadKind;
-use fof_lex::{Kind, LexError, Mark, Token, lex};
+use fof_lex::{Kind, LexError, Lexer, Mark, Token};
 use std::alloc::{AllocError, Global};
 use thiserror::Error;
 
@@ -43,60 +45,82 @@ impl From<AllocError> for ReadError {
     }
 }
 
-/// How many tokens the first statement has.
-fn statement_len(tokens: &[Token]) -> usize
-    ensures { result ≡ statement_len tokens.now }
-{
-    for (i, token) in tokens.iter().enumerate() {
-        if token.kind == Kind::Mark(Mark::Stop) {
-            return i + 1;
+impl From<LexError> for ReadError {
+    ghost use Rattle.std.specs.Prelude.{◌≡◌};
+    ghost use Rattle.fof_parse.specs.Refused.{refusal_of};
+
+    ghost from_gives = { λ e r. r ≡ refusal_of e };
+
+    fn from(e: LexError) -> ReadError {
+        match e {
+            LexError::Bad { offset } => ReadError::Lex { offset },
+            LexError::OutOfMemory => ReadError::OutOfMemory,
         }
     }
-    tokens.len()
 }
 
-/// The problem of the tokens, or the first bad statement's offset and kind.
-fn read_statements(
-    alloc: Global,
-    bytes: &[u8],
-    tokens: &[Token],
-) -> Result<Result<Problem, (u64, BadKind)>, AllocError>
-    requires { AreAllIn bytes.now tokens.now }
-    ensures { IfOk result (λ read. MatchResult read
-        (λ p. IsReadOf bytes.now tokens.now (plain_problem p))
-        (λ bad. IsRefusedAt bytes.now tokens.now bad.0 bad.1)) }
+fn is_stop(kind: Kind) -> bool
+    ensures { result ≡ is_stop_kind kind }
 {
-    let mut problem = empty_problem(alloc);
-    let mut rest = tokens;
-    while let Some(first) = rest.first() {
-        let (front, behind) = rest.split_at(statement_len(rest));
-        match with_statement(alloc, problem, bytes, front)? {
-            Err(kind) => return Ok(Err((first.start, kind))),
-            Ok(next) => {
-                problem = next;
-                rest = behind;
+    matches!(kind, Kind::Mark(Mark::Stop))
+}
+
+/// The tokens of the next statement, which go up to its full stop, or to the end of the text. None are left of what the
+/// list held before.
+fn next_statement(lexer: &mut Lexer<'_>, tokens: &mut Vec<Token>) -> Result<(), LexError>
+    ensures text { OnOk result (lexer.new.text ≡ lexer.old.text) }
+    ensures next { OnOk result (IsNext lexer.old tokens.new.items lexer.new) }
+    ensures all_in { OnOk result (AreAllIn lexer.old.text tokens.new.items) }
+    ensures shorter { OnOk result (length lexer.new.rest + length tokens.new.items ≤ length lexer.old.rest) }
+    ensures refused { IfErr result (IsRefusalAt (place lexer.old) lexer.old.rest) }
+{
+    tokens.clear();
+    'tokens: while let Some(token) = lexer.next_token()? {
+        if tokens.push(token).is_err() {
+            return Err(LexError::OutOfMemory);
+        }
+        if is_stop(token.kind) {
+            return Ok(());
+        }
+    }
+    Ok(())
+}
+
+/// What a text says that is not too large. The tokens of one statement are held at a time.
+fn read_statements(alloc: Global, bytes: &[u8]) -> Result<Contents, ReadError>
+    requires { length bytes.now ≤ MAX_BYTES }
+    ensures contents { IfOk result (λ c. IsProblemText bytes.now (plain_contents c)) }
+    ensures refused { IfErr result (Refuses bytes.now) }
+{
+    let mut lexer = Lexer::new(bytes);
+    let mut tokens = Vec::new(alloc);
+    let mut contents = empty_contents(alloc);
+    'statements: loop {
+        next_statement(&mut lexer, &mut tokens)?;
+        let Some(first) = tokens.first() else {
+            return Ok(contents);
+        };
+        let offset = first.start;
+        match with_statement(alloc, contents, bytes, tokens.as_slice())? {
+            Ok(next) => contents = next,
+            Err(kind) => {
+                lexer.read_on()?;
+                return Err(ReadError::Bad { offset, kind });
             }
         }
     }
-    Ok(Ok(problem))
 }
 
-/// Reads a problem in the first-order form of TPTP.
+/// Reads a problem in the first-order form of TPTP. But for want of memory it is refused exactly where the text is no problem.
 pub fn read_problem(alloc: Global, bytes: &[u8]) -> Result<Problem, ReadError>
     ensures problem { IfOk result (λ p. IsTheProblem bytes.now (plain_problem p)) }
     ensures refused { IfErr result (Refuses bytes.now) }
+    ensures no_problem { IfErr result (λ e. e ≢ ReadError.OutOfMemory → IsNoProblem bytes.now) }
     ensures too_large { IsErrOf result ReadError.TooLarge ↔ (MAX_BYTES < length bytes.now) }
 {
     if bytes.len() > MAX_BYTES {
         return Err(ReadError::TooLarge);
     }
-    let tokens = match lex(alloc, bytes) {
-        Ok(tokens) => tokens,
-        Err(LexError::Bad { offset }) => return Err(ReadError::Lex { offset }),
-        Err(LexError::OutOfMemory) => return Err(ReadError::OutOfMemory),
-    };
-    match read_statements(alloc, bytes, tokens.as_slice())? {
-        Ok(problem) => Ok(problem),
-        Err((offset, kind)) => Err(ReadError::Bad { offset, kind }),
-    }
+    let contents = read_statements(alloc, bytes)?;
+    Ok(problem_of(contents))
 }

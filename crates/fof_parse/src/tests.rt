@@ -1,7 +1,8 @@
-use crate::problem::start_list;
 use crate::read::{MAX_BYTES, ReadError, read_problem};
 use crate::refusal::BadKind;
+use crate::start::start_list;
 use fol_core::{Formula, same};
+use itoa::Buffer;
 use std::test::Fail;
 
 #[test]
@@ -17,8 +18,17 @@ fn reads_the_statements_of_a_text(rt: HostRuntime) -> Result<(), Fail> {
     Ok(())
 }
 
+/// `~` so many times before a word.
+fn negations(rt: &HostRuntime, times: u16) -> Result<Vec<u8>, Fail> {
+    let mut text = Vec::from_slice(rt.alloc(), b"fof(a,axiom,")?;
+    text.resize(12 + usize::from(times), b'~')?;
+    text.extend_from_slice(b"p).")?;
+    Ok(text)
+}
+
 #[test]
-fn refuses_the_first_bad_statement(rt: HostRuntime) {
+fn refuses_the_first_bad_statement(rt: HostRuntime) -> Result<(), Fail> {
+    let deep = negations(&rt, 500)?;
     let rows = [
         (
             b"fof(a,axiom,![X]:p(X) & q(X)).".as_slice(),
@@ -67,11 +77,13 @@ fn refuses_the_first_bad_statement(rt: HostRuntime) {
             21,
             BadKind::SecondConjecture,
         ),
+        (deep.as_slice(), 0, BadKind::TooDeep),
     ];
     for (text, offset, kind) in rows {
         let refused = read_problem(rt.alloc(), text).err();
         assert_eq!(rt; refused, Some(ReadError::Bad { offset, kind }), "{kind:?}");
     }
+    Ok(())
 }
 
 #[test]
@@ -92,24 +104,10 @@ fn reads_quoted_symbols(rt: HostRuntime) -> Result<(), Fail> {
     Ok(())
 }
 
-/// The refusal of `~` so many times before a word, or None where it is read.
-fn refused_negations(rt: &HostRuntime, times: usize) -> Result<Option<ReadError>, Fail> {
-    let mut text = Vec::from_slice(rt.alloc(), b"fof(a,axiom,")?;
-    for _ in 0..times {
-        text.push(b'~')?;
-    }
-    text.extend_from_slice(b"p).")?;
-    Ok(read_problem(rt.alloc(), text.as_slice()).err())
-}
-
 #[test]
 fn nests_up_to_the_limit(rt: HostRuntime) -> Result<(), Fail> {
-    assert_eq!(rt; refused_negations(&rt, 499)?, None);
-    let refused = ReadError::Bad {
-        offset: 0,
-        kind: BadKind::TooDeep,
-    };
-    assert_eq!(rt; refused_negations(&rt, 500)?, Some(refused));
+    let text = negations(&rt, 499)?;
+    assert_eq!(rt; read_problem(rt.alloc(), text.as_slice()).is_ok(), true);
     Ok(())
 }
 
@@ -174,5 +172,57 @@ fn refuses_a_text_that_is_too_large(rt: HostRuntime) -> Result<(), Fail> {
     let refused = read_problem(rt.alloc(), blanks.as_slice()).err();
     assert_eq!(rt; refused, Some(ReadError::TooLarge));
     assert_eq!(rt; read_problem(rt.alloc(), &blanks[1..]).is_ok(), true);
+    Ok(())
+}
+
+/// Appends a part of a statement, and a number.
+fn push_numbered(text: &mut Vec<u8>, part: &[u8], number: u32) -> Result<(), Fail> {
+    text.extend_from_slice(part)?;
+    let mut buffer = Buffer::new();
+    text.extend_from_slice(buffer.format(number).as_bytes())?;
+    Ok(())
+}
+
+/// A family: thirty axioms that name parents, and ten statements of further roles and forms.
+fn family(rt: &HostRuntime) -> Result<Vec<u8>, Fail> {
+    let mut text = Vec::from_slice(
+        rt.alloc(),
+        b"% File: FAM001+1 (caf\xc3\xa9)\n/* a block\n   comment */\n",
+    )?;
+    for child in 1..31u32 {
+        push_numbered(&mut text, b"fof(f", child)?;
+        push_numbered(&mut text, b",axiom,parent(c", child - 1)?;
+        push_numbered(&mut text, b",c", child)?;
+        push_numbered(&mut text, b"),file('FAM.p',f", child)?;
+        text.extend_from_slice(b")).\n")?;
+    }
+    let further = [
+        b"fof('grand-parent',definition,\n".as_slice(),
+        b"    ! [X,Y] : ( grandparent(X,Y) <=> ? [Z] : ( parent(X,Z) & parent(Z,Y) ) ),\n",
+        b"    introduced(definition,[new_symbols(definition,[grandparent])])).\n",
+        b"fof(h1,hypothesis,![X]:(~rich(X)|glad(X))).\n",
+        b"fof(a1,assumption,rich(c3)).\n",
+        b"fof(l1,lemma,?[X]:glad(X)).\n",
+        b"fof(t1,theorem,(rich(c4)|rich(c5)),unknown).\n",
+        b"fof(k1,corollary,($true & ~ $false)).\n",
+        b"fof(p1,plain,rich('Bea O\\'Hara')).\n",
+        b"fof(12,axiom,![X]:~poor(X),unknown,[]).\n",
+        b"fof(n1,negated_conjecture,~poor(c0)).\n",
+        b"fof(goal,conjecture,grandparent(c7,c9)).\n",
+    ];
+    for part in further {
+        text.extend_from_slice(part)?;
+    }
+    Ok(text)
+}
+
+#[test]
+fn reads_a_family(rt: HostRuntime) -> Result<(), Fail> {
+    let text = family(&rt)?;
+    let problem = read_problem(rt.alloc(), text.as_slice())?;
+    assert_eq!(rt; problem.statements.len(), 40);
+    assert_eq!(rt; problem.axioms.len(), 39);
+    assert_eq!(rt; problem.conjecture.is_some(), true);
+    assert_eq!(rt; start_list(rt.alloc(), &problem)?.len(), 40);
     Ok(())
 }

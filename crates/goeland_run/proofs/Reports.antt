@@ -1,7 +1,7 @@
 -- Lines that begin with `%` around a proof text.
-use Rattle.std.proofs.Common.{◌≡◌, ℕ, Bool, true, false, List, [], ◌∷◌, ◌++◌, map, Option, Some, None, ap, refl, sym, subst, ◌∙◌, append-nil}
+use Rattle.std.proofs.Common.{◌≡◌, ℕ, Bool, true, false, List, [], ◌∷◌, ◌++◌, Option, Some, None, ap, refl, sym, ◌∙◌, append-nil}
 use Rattle.std.specs.List.{AllByRecursion, filter}
-use Rattle.std.specs.Prelude.{option_to_list, option_map, is_some}
+use Rattle.std.specs.Prelude.{option_map, is_some}
 use Rattle.fol_core.specs.declared.formula.Formula.{Formula}
 use Rattle.fol_core.specs.View.{formula_of}
 use Rattle.std.proofs.lemmas.Grind.{flat_map-append}

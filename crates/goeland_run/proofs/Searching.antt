@@ -1,6 +1,5 @@
 -- What is searched is propositional.
 use Rattle.std.proofs.Common.{◌≡◌, Bool, true, false, ◌&&◌, List, [], ◌∷◌, refl}
-use Rattle.std.specs.List.{list_all}
 use Rattle.fol_core.specs.Syntax.{PlainTerms, no_terms, terms, PlainFormula, atom, verum, falsum, not, and, or, imp, iff, all, ex}
 use Rattle.prop_tableau.specs.Search.{IsPropositional, ArePropositional}
 use Rattle.prop_tableau.specs.Items.{is_no_terms}

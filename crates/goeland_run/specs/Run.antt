@@ -2,7 +2,7 @@
 use Rattle.std.specs.Prelude.{◌≡◌, ◌≢◌, ◌⊎◌, ℕ, ◌<◌, ◌≤◌, Bool, true, false, List, [], ◌∷◌, ◌++◌, map, codes, decimal, Option, IfSome, String, string_bytes, is_some, length}
 use Rattle.gl_outside.specs.Outside.{HasRisen, Appends, AppendsFront}
 use Rattle.fof_parse.specs.Problem.{PlainProblem, Start}
-use Rattle.fof_parse.specs.TheProblem.{IsTheProblem}
+use Rattle.fof_parse.specs.TheProblem.{IsTheProblem, IsNoProblem}
 use Rattle.fof_parse.specs.Lines.{IsRefusal}
 use Rattle.gs3_rules.specs.Refutes.{ProofTree, Refutes}
 use Rattle.gs3_text.specs.ProofText.{text_of, ProofText}
@@ -119,7 +119,7 @@ abbrev pub Answers : List ℕ → Report → Type 0
 Answers bytes Usage = ⊥
 Answers bytes ReadFault = ⊥
 Answers bytes TooLarge = most_bytes < length bytes
-Answers bytes (Refused text) = IsRefusal bytes (printed (Refused text))
+Answers bytes (Refused text) = IsNoProblem bytes × IsRefusal bytes (printed (Refused text))
 Answers bytes NotBuilt = IsNotBuilt bytes
 Answers bytes (GaveUp text) = IsGivenUp bytes (printed (GaveUp text))
 Answers bytes (Proved theorem body) = IsProof bytes theorem (printed (Proved theorem body))

@@ -1,10 +1,13 @@
 //! A run: a problem on the standard input, and its proof, or why there is none, on the standard output.
 
-ghost use Rattle.std.specs.Prelude.{◌≡◌, ◌↔◌, ◌++◌, ℕ, List, codes, IfOk, OnOk, OnErr, IsTrue};
+ghost use Rattle.std.specs.Prelude.{◌≡◌, ◌≢◌, ◌↔◌, ◌++◌, ℕ, List, codes, IfOk, OnOk, OnErr, IsTrue};
 ghost use Rattle.gl_outside.specs.Outside.{HasRisen, Appends, AppendsFront};
+ghost use Rattle.std.specs.Option.{is_some};
+ghost use Rattle.fol_core.specs.View.{formulas_of};
 ghost use Rattle.fof_parse.specs.ProblemView.{plain_problem};
-ghost use Rattle.fof_parse.specs.Problem.{Start};
+ghost use Rattle.fof_parse.specs.Problem.{Start, PlainProblem};
 ghost use Rattle.fof_parse.specs.Refused.{Refuses};
+ghost use Rattle.fof_parse.specs.TheProblem.{IsNoProblem};
 ghost use Rattle.gs3_rules.specs.Apply.{rules_of};
 ghost use Rattle.gs3_rules.specs.Refutes.{RefutedBy};
 ghost use Rattle.gs3_text.specs.ProofText.{text_of};
@@ -14,7 +17,8 @@ ghost use Rattle.prop_tableau.specs.Search.{ArePropositional};
 ghost use Rattle.goeland_run.specs.Run.{prove_words, words_of, reason_words, given_up_lines, head_of, printed, status_of, Answers, AnswersProblem, Fits, Prints, Ran};
 
 use crate::searched::are_searched;
-use fof_parse::{MAX_BYTES, Problem, ReadError, read_problem, refusal_line, start_list};
+use fof_parse::{MAX_BYTES, Problem, ReadError, into_start_list, read_problem, refusal_line};
+use fol_core::{Formulas, Symbols};
 use gl_outside::{FetchError, Shelf, Sink, SinkFailed};
 use gs3_rules::Steps;
 use gs3_text::{tree_of, write_tree};
@@ -67,17 +71,23 @@ fn is_prove(words: &[String]) -> bool
     name.as_str() == "-"
 }
 
-/// The report of a proof with these steps.
-fn proved(alloc: Global, problem: &Problem, steps: Steps) -> Result<Report, AllocError>
-    requires refuted { RefutedBy (Start (plain_problem problem.now)) (rules_of steps) }
-    requires closes { Closes (Start (plain_problem problem.now)) }
-    requires propositional { ArePropositional (Start (plain_problem problem.now)) }
-    ensures { IfOk result (AnswersProblem (plain_problem problem.now)) }
+/// The report of a proof with these steps, where `conjectured` says that the problem has a conjecture.
+fn proved(
+    alloc: Global,
+    symbols: &Symbols,
+    conjectured: bool,
+    start: &Formulas,
+    steps: Steps,
+) -> Result<Report, AllocError>
+    requires refuted { RefutedBy (formulas_of start.now) (rules_of steps) }
+    requires closes { Closes (formulas_of start.now) }
+    requires propositional { ArePropositional (formulas_of start.now) }
+    ensures { IfOk result (λ r. (problem : PlainProblem) → problem.symbols ≡ symbols.now → is_some problem.conjecture ≡ conjectured → Start problem ≡ formulas_of start.now → AnswersProblem problem r) }
 {
     let tree = tree_of(steps);
-    let mut text = write_tree(alloc, &problem.symbols, &tree)?;
+    let mut text = write_tree(alloc, symbols, &tree)?;
     text.extend_from_slice(b"% SZS output end Proof for -\n")?;
-    Ok(Report::Proved(problem.conjecture.is_some(), text))
+    Ok(Report::Proved(conjectured, text))
 }
 
 /// Appends the words that tell the end of a walk.
@@ -105,23 +115,23 @@ fn given_up(alloc: Global, answer: OpenAnswer) -> Result<Vec<u8>, AllocError>
 }
 
 /// The report of a problem.
-fn search(alloc: Global, problem: &Problem) -> Result<Report, AllocError>
-    ensures { IfOk result (AnswersProblem (plain_problem problem.now)) }
+fn search(alloc: Global, problem: Problem) -> Result<Report, AllocError>
+    ensures { IfOk result (AnswersProblem (plain_problem problem)) }
 {
-    let start = start_list(alloc, problem)?;
+    let conjectured = problem.conjecture.is_some();
+    let (symbols, start) = into_start_list(alloc, problem)?;
     if !are_searched(&start) {
         return Ok(Report::NotBuilt);
     }
-    let found = find_proof(alloc, &start)?;
-    match found {
-        Found::Proof(steps) => proved(alloc, problem, steps),
+    match find_proof(alloc, &start)? {
+        Found::Proof(steps) => proved(alloc, &symbols, conjectured, &start, steps),
         Found::Open(answer) => Ok(Report::GaveUp(given_up(alloc, answer)?)),
     }
 }
 
 /// The report of a text that is refused.
 fn refused(alloc: Global, error: ReadError) -> Result<Report, AllocError>
-    ensures { IfOk result (λ r. (bytes : List ℕ) → Refuses bytes error → Answers bytes r) }
+    ensures { IfOk result (λ r. (bytes : List ℕ) → Refuses bytes error → (error ≢ ReadError.OutOfMemory → IsNoProblem bytes) → Answers bytes r) }
 {
     match error {
         ReadError::TooLarge => Ok(Report::TooLarge),
@@ -138,7 +148,7 @@ fn answer(alloc: Global, bytes: &[u8]) -> Result<Report, AllocError>
     ensures { IfOk result (Answers bytes.now) }
 {
     match read_problem(alloc, bytes) {
-        Ok(problem) => search(alloc, &problem),
+        Ok(problem) => search(alloc, problem),
         Err(error) => refused(alloc, error),
     }
 }

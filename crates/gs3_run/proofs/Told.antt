@@ -16,7 +16,7 @@ problem_told told bytes p h r = record { bytes = r.bytes; are = same_told told b
 pub fits_told : (told proof : Option (List ℕ)) (bytes : List ℕ) (before after : ℕ) → Tells told bytes → (r : Report) → FitsBoth (Some bytes) proof before after r → FitsBoth told proof before after r
 fits_told told proof bytes before after h Usage f = f
 fits_told told proof bytes before after h TooLarge f = (f.0, told_too told (λ b. most_problem_bytes < length b) bytes h f.1)
-fits_told told proof bytes before after h (Refused text) f = (f.0, (f.1.0, same_told told bytes f.1.0 h f.1.1, f.1.2, f.1.3))
+fits_told told proof bytes before after h (Refused text) f = (f.0, (f.1.0, same_told told bytes f.1.0 h f.1.1, f.1.2, f.1.3, f.1.4))
 fits_told told proof bytes before after h ReadFault f = f
 fits_told told proof bytes before after h TooLargeProof f = (f.0, problem_told told bytes f.0 h f.1, f.2)
 fits_told told proof bytes before after h Valid f = (f.0, problem_told told bytes f.0 h f.1, f.2)
@@ -26,7 +26,7 @@ fits_told told proof bytes before after h (Invalid text) f = (f.0, problem_told 
 pub fits_refused : (bytes : List ℕ) (proof : Option (List ℕ)) (before : ℕ) → length bytes ≤ most_problem_bytes → (r : Report) → RefusesText bytes r → FitsBoth (Some bytes) proof before before r
 fits_refused bytes proof before within Usage h = h
 fits_refused bytes proof before within TooLarge h = (refl, h)
-fits_refused bytes proof before within (Refused text) h = (refl, (bytes, refl, within, h))
+fits_refused bytes proof before within (Refused text) h = (refl, (bytes, refl, within, h.0, h.1))
 fits_refused bytes proof before within TooLargeProof h = absurd h
 fits_refused bytes proof before within ReadFault h = absurd h
 fits_refused bytes proof before within Valid h = absurd h

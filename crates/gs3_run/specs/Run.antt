@@ -2,7 +2,7 @@
 use Rattle.std.specs.Prelude.{◌≡◌, ◌≢◌, ◌⊎◌, ℕ, ◌<◌, ◌≤◌, List, [], ◌∷◌, ◌++◌, map, codes, decimal, Option, Some, IfSome, String, string_bytes, length, slice_get}
 use Rattle.gl_outside.specs.Outside.{HasRisen, Appends, AppendsFront}
 use Rattle.fof_parse.specs.Problem.{PlainProblem, Start}
-use Rattle.fof_parse.specs.TheProblem.{IsTheProblem}
+use Rattle.fof_parse.specs.TheProblem.{IsTheProblem, IsNoProblem}
 use Rattle.fof_parse.specs.Lines.{IsRefusal}
 use Rattle.gs3_rules.specs.Refutes.{ProofTree, Refutes, FailsAt}
 use Rattle.gs3_text.specs.ProofText.{text_of, ProofText, IsMalformedAt, step_lines}
@@ -99,7 +99,7 @@ pub record IsNoTextAt (problem : PlainProblem) (bytes : List ℕ) (line : ℕ) :
 abbrev pub RefusesText : List ℕ → Report → Type 0
 RefusesText bytes Usage = ⊥
 RefusesText bytes TooLarge = most_problem_bytes < length bytes
-RefusesText bytes (Refused text) = IsRefusal bytes text.items
+RefusesText bytes (Refused text) = IsNoProblem bytes × IsRefusal bytes text.items
 RefusesText bytes TooLargeProof = ⊥
 RefusesText bytes ReadFault = ⊥
 RefusesText bytes Valid = ⊥
@@ -154,7 +154,7 @@ FitsProof problem told before after (Invalid text) = (after ≡ before) × Reads
 abbrev pub FitsBoth : Option (List ℕ) → Option (List ℕ) → ℕ → ℕ → Report → Type 0
 FitsBoth told proof before after Usage = ⊥
 FitsBoth told proof before after TooLarge = (after ≡ before) × IfSome told (λ b. most_problem_bytes < length b)
-FitsBoth told proof before after (Refused text) = (after ≡ before) × ((bytes : List ℕ) × Tells told bytes × (length bytes ≤ most_problem_bytes) × IsRefusal bytes text.items)
+FitsBoth told proof before after (Refused text) = (after ≡ before) × ((bytes : List ℕ) × Tells told bytes × (length bytes ≤ most_problem_bytes) × IsNoProblem bytes × IsRefusal bytes text.items)
 FitsBoth told proof before after ReadFault = HasRisen before after
 FitsBoth told proof before after TooLargeProof = (problem : PlainProblem) × ReadsProblem told problem × FitsProof problem proof before after TooLargeProof
 FitsBoth told proof before after Valid = (problem : PlainProblem) × ReadsProblem told problem × FitsProof problem proof before after Valid

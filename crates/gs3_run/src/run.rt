@@ -1,8 +1,9 @@
 //! A check: a problem and a proof on the shelf, and the line that says what the proof is.
 
-ghost use Rattle.std.specs.Prelude.{◌≡◌, ◌≤◌, ℕ, List, ◌++◌, ◌∷◌, [], Some, length, decimal, IfOk, OnErr, MatchOption};
+ghost use Rattle.std.specs.Prelude.{◌≡◌, ◌≢◌, ◌≤◌, ℕ, List, ◌++◌, ◌∷◌, [], Some, length, decimal, IfOk, OnErr, MatchOption};
 ghost use Rattle.fof_parse.specs.ProblemView.{plain_problem};
 ghost use Rattle.fof_parse.specs.Refused.{Refuses};
+ghost use Rattle.fof_parse.specs.TheProblem.{IsNoProblem};
 ghost use Rattle.gs3_run.specs.Run.{words_of, AreNames, AreNoNames, HaveNames, most_problem_bytes, printed, status_of, Judges, RefusesText, FitsProof, FitsBoth, Fits, Prints, Ran};
 ghost use Rattle.gs3_text.specs.ProofText.{text_of};
 
@@ -100,7 +101,7 @@ fn report_proof<S: Shelf>(
 
 /// The report of the text of a problem that is refused.
 fn refused(alloc: Global, error: ReadError) -> Result<Report, AllocError>
-    ensures { IfOk result (λ r. (bytes : List ℕ) → Refuses bytes error → RefusesText bytes r) }
+    ensures { IfOk result (λ r. (bytes : List ℕ) → Refuses bytes error → (error ≢ ReadError.OutOfMemory → IsNoProblem bytes) → RefusesText bytes r) }
 {
     match error {
         ReadError::TooLarge => Ok(Report::TooLarge),

@@ -1,4 +1,4 @@
-use Rattle.std.proofs.Common.{◌+◌, drop, map}
+use Rattle.std.proofs.Common.{drop, map}
 use Rattle.fol_core.specs.View.{term_of}
 use Rattle.fof_parse.specs.Views.{raws_of}
 use Rattle.fof_parse.specs.Parsing.{AreProperTerms}

@@ -1,4 +1,4 @@
-use Rattle.std.proofs.Common.{sym, ◌∙◌, arith}
+use Rattle.std.proofs.Common.{arith}
 use Rattle.fof_parse.proofs.Raws.{raws_count}
 use Rattle.fof_parse.proofs.build.arity.Goals as goal
 

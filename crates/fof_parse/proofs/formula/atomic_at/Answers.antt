@@ -1,5 +1,4 @@
-use Rattle.std.proofs.Common.{None, Some, sym, ap, ◌∙◌, refl, arith}
-use Rattle.fof_parse.specs.Grammar.{variable, numeral, object}
+use Rattle.std.proofs.Common.{None, sym, ap, ◌∙◌, refl, arith}
 use Rattle.fof_parse.specs.Reading.{atom_of}
 use Rattle.fof_parse.specs.Views.{symbol_of, raw_of, raws_of}
 use Rattle.fof_parse.proofs.Raws.{raw_of_applied, raw_of_variable, raw_of_number, raw_of_distinct}

@@ -1,23 +1,21 @@
-use Rattle.std.proofs.Common.{sym, ap, subst, ◌∙◌, arith}
-use Rattle.fof_lex.specs.Tokens.{Lexes}
-use Rattle.fof_parse.specs.Text.{AreAllIn}
-use Rattle.fof_parse.specs.ProblemView.{plain_problem}
-use Rattle.fof_parse.proofs.Pieces.{found_in}
+use Rattle.std.proofs.Common.{sym, subst}
+use Rattle.std.proofs.lemmas.Result.{err_from_is_err_and}
+use Rattle.fof_parse.specs.ProblemView.{plain_contents}
+use Rattle.fof_parse.specs.TheProblem.{IsTheProblem}
 use Rattle.fof_parse.proofs.Once.{the_problem}
+use Rattle.fof_parse.proofs.Kept.{kept}
+use Rattle.fof_parse.proofs.Apart.{not_both_ways}
 use Rattle.fof_parse.proofs.read.read_problem.Goals as goal
 
-pub read_statements-requires : goal.read_statements-requires
-read_statements-requires c = subst (AreAllIn c.args.bytes.now) (sym c.as_slice.ensures) (found_in c.args.bytes.now 0 c.in-Ok.tokens c.in-Ok.ensures.places)
+pub problem_of-requires : goal.problem_of-requires
+problem_of-requires c = kept c.args.bytes.now (plain_contents c.in_ok-contents.contents) c.in_ok-contents.ensures.contents
 
-pub returns-in-Ok-2-clause-problem : goal.returns-in-Ok-2-clause-problem
-returns-in-Ok-2-clause-problem c =
-    let r = rw c.in-Ok-2.is at c.in_ok-problem.ensures in
-    the_problem c.args.bytes.now (plain_problem c.in-Ok-2.problem)
-    (record {
-      within = omega (arith, c.if-bytes-gt-MAX_BYTES.false);
-      tokens = c.as_slice.result.now;
-      lexed = subst (Lexes 0 c.args.bytes.now) (sym c.as_slice.ensures) c.in-Ok.ensures.tokens;
-      statements = r.0;
-      good = r.1;
-      meaning = r.2;
-    })
+pub returns-clause-problem : goal.returns-clause-problem
+returns-clause-problem c =
+    subst (IsTheProblem c.args.bytes.now) (sym c.problem_of.ensures)
+    (the_problem c.args.bytes.now (plain_contents c.in_ok-contents.contents) c.in_ok-contents.ensures.contents)
+
+pub returns-in_err-contents-clause-no_problem : goal.returns-in_err-contents-clause-no_problem
+returns-in_err-contents-clause-no_problem c =
+    let e = err_from_is_err_and c.from_residual.result c.from_residual.ensures.1 in
+    rw e.1 (rw e.2 (λ some problem text. not_both_ways c.args.bytes.now problem c.in_err-contents.field-0.0 some text c.in_err-contents.ensures.refused))

@@ -1,5 +1,5 @@
 use Rattle.std.proofs.Common.{◌≡◌, take}
-use Rattle.fof_parse.proofs.problem.copies.Given as goal
+use Rattle.fof_parse.proofs.start.copies.Given as goal
 
 abbrev pub invariant-loop-f : goal.invariant-loop-f
 invariant-loop-f l = l.out ≡ take l.f-index l.f-items
