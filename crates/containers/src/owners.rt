@@ -1,15 +1,18 @@
-ghost use Rattle.std.specs.Prelude.{◌≡◌, ◌++◌, IfOk, OnOk};
+//! Lists of shared pointers.
+
+ghost use Rattle.std.specs.Prelude.{◌≡◌, ◌++◌, ℕ, take, IfOk, OnOk, OnErr};
 
 use crate::shared::Shared;
 use sqlite_items::Items;
 use std::alloc::{AllocError, Global};
 
-/// Adds further owners of the values of `more` at the end of `list`.
+/// Adds further owners of the values of `more` at the end of `list`. After an error those of the first few are added.
 pub fn append_owners<T: Drop>(
     list: &mut Items<Shared<T>>,
     more: &Items<Shared<T>>,
 ) -> Result<(), AllocError>
-    ensures { OnOk result (list.new ≡ list.old ++ more.now) }
+    ensures ok { OnOk result (list.new ≡ list.old ++ more.now) }
+    ensures err { OnErr result ((n : ℕ) × (list.new ≡ list.old ++ take n more.now)) }
 {
     for value in more.as_slice() {
         list.push(value.copy()?)?;

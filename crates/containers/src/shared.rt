@@ -1,4 +1,6 @@
-ghost use Rattle.std.specs.Prelude.{◌≡◌, IfOk};
+//! A counted pointer that contracts see as its value.
+
+ghost use Rattle.std.specs.Prelude.{◌≡◌, IfOk, IfSome};
 ghost use Rattle.std.specs.Arc.{arc_value};
 
 use std::alloc::{AllocError, Global};
@@ -38,6 +40,14 @@ impl<T> Shared<T> {
         ensures { arc_value result.now ≡ self.now }
     {
         &self.inner
+    }
+
+    /// The value, of its last owner; None where there are others.
+    pub fn into_inner(self) -> Option<T>
+        ensures { IfSome result (λ value. value ≡ self) }
+    {
+        let Shared { inner } = self;
+        Arc::into_inner(inner)
     }
 
     /// Another owner of the same value.

@@ -18,3 +18,5 @@ remains_binary limit depth most a b whole r h = record { d = r.d; count = r.coun
 
 pub remains_end : (limit depth most n whole : ℕ) → Remains limit depth most n whole → n ≤ limit → max most (n - depth) ≡ whole
 remains_end limit depth most n whole r h = omega arith
+
+pub ruleset remaining = (remains_start, remains_quantifier, remains_binary, remains_end)

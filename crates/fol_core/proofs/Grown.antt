@@ -15,3 +15,5 @@ grown_on old mid new a b =
 
 pub cut_back : (old new : List ℕ) → IsGrown old new → take (length old) new ≡ old
 cut_back old new g = ap (take (length old)) g.is ∙ take-append_seam old g.more
+
+pub ruleset growing = (grown_none, grown_by, grown_on, cut_back)

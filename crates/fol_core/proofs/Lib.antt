@@ -6,3 +6,4 @@ pub mod SymbolLists
 pub mod KeptSymbols
 pub mod Grown
 pub mod Examples
+pub mod ParamBound

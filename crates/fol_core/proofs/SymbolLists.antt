@@ -1,7 +1,7 @@
 -- A list of symbols and the table of its names: what a look-up finds, and what a new symbol changes.
-use Rattle.std.proofs.Common.{◌≡◌, ◌↔◌, ◌<◌, ◌≤◌, ◌+◌, ◌-◌, ◌^◌, ◌⊎◌, inl, inr, ℕ, suc, zero, Bool, true, false, not, cond, List, [], ◌∷◌, ◌++◌, length, get_or, Option, None, Some, slice_get, option_map, nat_eq, eqb, refl, ap, sym, ◌∙◌, subst, arith, Vec, true≢false, length-append}
+use Rattle.std.proofs.Common.{◌≡◌, ◌↔◌, ◌<◌, ◌≤◌, ◌+◌, ◌-◌, ◌^◌, ◌⊎◌, inl, inr, ℕ, suc, zero, Bool, true, false, not, cond, List, [], ◌∷◌, ◌++◌, length, get_or, Option, None, Some, slice_get, option_map, nat_eq, eqb, refl, ap, sym, ◌∙◌, subst, arith, Vec, take, drop, ltb, ltb-true, ltb-false, ⊎_elim, true≢false, length-append}
 use Rattle.std.proofs.lemmas.Option.{slice_get-map, get_or_from_slice_get}
-use Rattle.std.proofs.lemmas.List.{map-append, length-map}
+use Rattle.std.proofs.lemmas.List.{map-append, length-map, take-append-drop}
 use Rattle.std.proofs.lemmas.Bool.{eqb-true, eqb-false}
 use Rattle.std.proofs.lemmas.Bool.Decides.{nat_tests}
 use Rattle.std.specs.Cmp.Lexicographic.{pointwise, bytes_decides}
@@ -10,7 +10,7 @@ use Rattle.std.specs.Map.{lookup, keys_of}
 use Rattle.std.specs.List.{position_or_len}
 use Rattle.indexmap.specs.IndexMap.{insert_entry}
 use Rattle.fol_core.specs.Symbol.{Symbol, IsSymbolName, IsNumberOf, IsAt, IsNowhere}
-use Rattle.fol_core.specs.SymbolList.{Name, Entries, names_of, symbol_of, symbols_in, number_in, numbers_or_none, numbers_at, number_at, AreNames, AreWithin, AreNumbered}
+use Rattle.fol_core.specs.SymbolList.{Name, Entries, names_of, symbol_of, symbols_in, number_in, numbers_or_none, numbers_at, number_at, AreNames, AreWithin, AreRising, IsRising, IsPlaceOf, HasAdded, AreNumbered}
 use Rattle.fol_core.specs.declared.numbering.Numbered.{Numbered}
 use Rattle.fol_core.specs.declared.numbering.Listed.{Listed}
 
@@ -53,6 +53,21 @@ pushed_other list s q r other old n = (
   λ f. elim (push_at list s q n f) [ inl g ↦ (old n).1 g | inr g ↦ absurd (other g.1) ],
 )
 
+below_or_above : (k place : ℕ) → (k < place) ⊎ (place ≤ k)
+below_or_above k place = by (ltb k place) refl
+  where
+    by : (b : Bool) → ltb k place ≡ b → (k < place) ⊎ (place ≤ k)
+    by true e = inl (ltb-true k place e)
+    by false e = inr (ltb-false k place e)
+
+pub entry_at : (ns : List Numbered) (k : ℕ) (n : Numbered) → true ≡ ltb k (length ns) → n ≡ get_or ns k n → slice_get ns k ≡ Some n
+entry_at ns k n within e = by ns k n (ltb-true k (length ns) (sym within)) e
+  where
+    by : (ns : List Numbered) (k : ℕ) (n : Numbered) → k < length ns → n ≡ get_or ns k n → slice_get ns k ≡ Some n
+    by [] k n lt e = absurd (omega (arith, lt))
+    by (m ∷ ns) zero n lt e = ap (λ x. Some x) (sym e)
+    by (m ∷ ns) (suc k) n lt e = by ns k n (omega (arith, lt)) e
+
 eqb_same : (n : ℕ) → eqb n n ≡ true
 eqb_same n = grind (arith, nat_tests)
 
@@ -63,15 +78,66 @@ last_step : (b : Bool) (x y : ℕ) (r next : Option ℕ) → cond b (Some x) r �
 last_step true x y r next e rest = absurd (none_some (Some x) x e refl)
 last_step false x y r next e rest = rest e
 
-number_in_last : (ns : List Numbered) (m : Numbered) → number_in ns m.arity ≡ None → number_in (ns ++ m ∷ []) m.arity ≡ Some m.number
-number_in_last [] m e = ap (λ b. cond b (Some m.number) None) (eqb_same m.arity)
-number_in_last (n ∷ ns) m e =
-    last_step (eqb n.arity m.arity) n.number m.number (number_in ns m.arity) (number_in (ns ++ m ∷ []) m.arity) e (number_in_last ns m)
+-- an entry put between two lists
+number_in_new : (front back : List Numbered) (m : Numbered) → number_in (front ++ back) m.arity ≡ None → number_in (front ++ m ∷ back) m.arity ≡ Some m.number
+number_in_new [] back m e = ap (λ b. cond b (Some m.number) (number_in back m.arity)) (eqb_same m.arity)
+number_in_new (n ∷ front) back m e =
+    last_step (eqb n.arity m.arity) n.number m.number (number_in (front ++ back) m.arity) (number_in (front ++ m ∷ back) m.arity) e (number_in_new front back m)
 
-number_in_other : (ns : List Numbered) (m : Numbered) (b : ℕ) → (m.arity ≡ b → ⊥) → number_in (ns ++ m ∷ []) b ≡ number_in ns b
-number_in_other [] m b other = ap (λ t. cond t (Some m.number) None) (eqb_other m.arity b other)
-number_in_other (n ∷ ns) m b other =
-    ap (λ r. cond (eqb n.arity b) (Some n.number) r) (number_in_other ns m b other)
+number_in_other : (front back : List Numbered) (m : Numbered) (b : ℕ) → (m.arity ≡ b → ⊥) → number_in (front ++ m ∷ back) b ≡ number_in (front ++ back) b
+number_in_other [] back m b other = ap (λ t. cond t (Some m.number) (number_in back b)) (eqb_other m.arity b other)
+number_in_other (n ∷ front) back m b other =
+    ap (λ r. cond (eqb n.arity b) (Some n.number) r) (number_in_other front back m b other)
+
+added_new : (old new : List Numbered) (m : Numbered) → HasAdded old m new → number_in old m.arity ≡ None → number_in new m.arity ≡ Some m.number
+added_new old new m (p, within, e) none =
+    ap (λ ns. number_in ns m.arity) e ∙ number_in_new (take p old) (drop p old) m (ap (λ ns. number_in ns m.arity) (take-append-drop p old) ∙ none)
+
+added_other : (old new : List Numbered) (m : Numbered) (b : ℕ) → HasAdded old m new → (m.arity ≡ b → ⊥) → number_in new b ≡ number_in old b
+added_other old new m b (p, within, e) other =
+    ap (λ ns. number_in ns b) e ∙ number_in_other (take p old) (drop p old) m b other ∙ ap (λ ns. number_in ns b) (take-append-drop p old)
+
+-- what stands at the place of a number of arguments
+number_in_none : (ns : List Numbered) (arity : ℕ) → ((k : ℕ) (d : Numbered) → k < length ns → (get_or ns k d).arity ≡ arity → ⊥) → number_in ns arity ≡ None
+number_in_none [] arity apart = refl
+number_in_none (n ∷ ns) arity apart =
+    ap (λ b. cond b (Some n.number) (number_in ns arity)) (eqb_other n.arity arity (apart 0 n (omega arith))) ∙ number_in_none ns arity (λ k d lt. apart (suc k) d (omega (arith, lt)))
+
+pub number_found : (ns : List Numbered) (arity place : ℕ) (n : Numbered) → ((k : ℕ) (d : Numbered) → k < place → (get_or ns k d).arity ≡ arity → ⊥) → slice_get ns place ≡ Some n → n.arity ≡ arity
+    → number_in ns arity ≡ Some n.number
+number_found [] arity place n apart at e = absurd (none_some None n refl at)
+number_found (m ∷ ns) arity zero n apart at e =
+    let same : m ≡ n = some_same (Some m) m n refl at in
+    ap (λ b. cond b (Some m.number) (number_in ns arity)) (ap (λ x. eqb x arity) (ap (λ x. x.arity) same ∙ e) ∙ eqb_same arity) ∙ ap (λ x. Some x.number) same
+number_found (m ∷ ns) arity (suc place) n apart at e =
+    ap (λ b. cond b (Some m.number) (number_in ns arity)) (eqb_other m.arity arity (apart 0 m (omega arith))) ∙ number_found ns arity place n (λ k d lt. apart (suc k) d (omega (arith, lt))) at e
+
+get_or_at : (ns : List Numbered) (k : ℕ) (n d : Numbered) → slice_get ns k ≡ Some n → get_or ns k d ≡ n
+get_or_at ns k n d at = get_or_from_slice_get ns k n d at
+
+pub number_absent : (ns : List Numbered) (arity place : ℕ) (n : Numbered) → IsRising ns → IsPlaceOf ns arity place → slice_get ns place ≡ Some n → (n.arity ≡ arity → ⊥) → number_in ns arity ≡ None
+number_absent ns arity place n rising at is other = number_in_none ns arity apart
+  where
+    apart : (k : ℕ) (d : Numbered) → k < length ns → (get_or ns k d).arity ≡ arity → ⊥
+    apart k d lt e = ⊎_elim
+        (λ below. let least = at.0 k d (omega arith) below in omega (arith, e))
+        (λ above. let most = rising place k d above lt in let first = ap (λ x. x.arity) (get_or_at ns place n d is) in let reached = at.1 place d (omega arith) (omega (arith, above, lt)) in
+        other (omega (arith, e, first)))
+        (below_or_above k place)
+
+pub number_beyond : (ns : List Numbered) (arity place : ℕ) → IsPlaceOf ns arity place → length ns ≤ place → number_in ns arity ≡ None
+number_beyond ns arity place at beyond =
+    number_in_none ns arity (λ k d lt e. let less = at.0 k d (omega arith) (omega (arith, lt, beyond)) in omega (arith, e))
+
+rising_step_at : (b : Bool) (e : Name × Vec Numbered Global) (es : Entries) (w : List ℕ) → IsRising e.1.items → IsRising (numbers_at es w)
+    → IsRising (numbers_or_none (cond b (Some e.1) (lookup (λ k. pointwise nat_eq w k.items) es)))
+rising_step_at true e es w here there = here
+rising_step_at false e es w here there = there
+
+-- the numbers of arguments of each name rise
+pub rising_at : (es : Entries) (w : List ℕ) → AreRising es → IsRising (numbers_at es w)
+rising_at [] w rising = λ i j d le lt. absurd (omega arith)
+rising_at (e ∷ es) w rising = rising_step_at (pointwise nat_eq w e.0.items) e es w rising.0 (rising_at es w rising.1)
 
 abbrev eq : Name → Name → Bool
 eq k x = pointwise nat_eq k.items x.items
@@ -152,6 +218,15 @@ named_more [] k v n h = (n, tt)
 named_more (e ∷ es) k v n h =
     named_step (eq k e.0) e es (insert_entry eq es k v) v h.0 h.1 (named_more es k v n h.1)
 
+rising_step : (b : Bool) (e : Name × Vec Numbered Global) (es rest : Entries) (v : Vec Numbered Global) → IsRising v.items → AreRising (e ∷ es) → AreRising rest → AreRising (cond b ((e.0, v) ∷ es) (e ∷ rest))
+rising_step true e es rest v rises h g = (rises, h.1)
+rising_step false e es rest v rises h g = (h.0, g)
+
+rising_more : (es : Entries) (k : Name) (v : Vec Numbered Global) → IsRising v.items → AreRising es → AreRising (insert_entry eq es k v)
+rising_more [] k v rises h = (rises, tt)
+rising_more (e ∷ es) k v rises h =
+    rising_step (eq k e.0) e es (insert_entry eq es k v) v rises h (rising_more es k v rises h.1)
+
 longer_step : (b : Bool) (e : Name × Vec Numbered Global) (es rest : Entries) (v : Vec Numbered Global) → length es ≤ length rest → length (e ∷ es) ≤ length (cond b ((e.0, v) ∷ es) (e ∷ rest))
 longer_step true e es rest v h = omega arith
 longer_step false e es rest v h = omega arith
@@ -183,12 +258,12 @@ pushed_symbols es k v listed s within at =
     ∙ ap (λ w. symbols_in (names_of es) listed ++ (w, s.arity) ∷ []) (ap (λ p. get_or (names_of (insert_entry eq es k v)) p []) at ∙ placed_name es k v)
 
 -- what the entries know of a symbol, once the key has the numbers v
-known_same : (es : Entries) (k : Name) (v : Vec Numbered Global) (m : Numbered) → v.items ≡ numbers_at es k.items ++ m ∷ [] → number_at es (k.items, m.arity) ≡ None
+known_same : (es : Entries) (k : Name) (v : Vec Numbered Global) (m : Numbered) → HasAdded (numbers_at es k.items) m v.items → number_at es (k.items, m.arity) ≡ None
     → number_at (insert_entry eq es k v) (k.items, m.arity) ≡ Some m.number
 known_same es k v m ve none =
-    ap (λ o. number_in (numbers_or_none o) m.arity) (found_same es k v) ∙ ap (λ ns. number_in ns m.arity) ve ∙ number_in_last (numbers_at es k.items) m none
+    ap (λ o. number_in (numbers_or_none o) m.arity) (found_same es k v) ∙ added_new (numbers_at es k.items) v.items m ve none
 
-known_other : (es : Entries) (k : Name) (v : Vec Numbered Global) (m : Numbered) (q : Symbol) → v.items ≡ numbers_at es k.items ++ m ∷ [] → ((k.items, m.arity) ≡ q → ⊥)
+known_other : (es : Entries) (k : Name) (v : Vec Numbered Global) (m : Numbered) (q : Symbol) → HasAdded (numbers_at es k.items) m v.items → ((k.items, m.arity) ≡ q → ⊥)
     → number_at (insert_entry eq es k v) q ≡ number_at es q
 known_other es k v m q ve other = by (pointwise nat_eq q.0 k.items) refl
   where
@@ -197,8 +272,8 @@ known_other es k v m q ve other = by (pointwise nat_eq q.0 k.items) refl
     by true e =
         let name : q.0 ≡ k.items = (bytes_decides q.0 k.items).0 e in
         ap (λ w. number_at (insert_entry eq es k v) (w, q.1)) name
-        ∙ ap (λ o. number_in (numbers_or_none o) q.1) (found_same es k v) ∙ ap (λ ns. number_in ns q.1) ve
-        ∙ number_in_other (numbers_at es k.items) m q.1 (λ f. other (λ i. (sym name i, f i)))
+        ∙ ap (λ o. number_in (numbers_or_none o) q.1) (found_same es k v)
+        ∙ added_other (numbers_at es k.items) v.items m q.1 ve (λ f. other (λ i. (sym name i, f i)))
         ∙ ap (λ w. number_at es (w, q.1)) (sym name)
 
 is_it : (s q : Symbol) → (s ≡ q) ⊎ (s ≡ q → ⊥)
@@ -211,10 +286,11 @@ is_it s q = by (pointwise nat_eq s.0 q.0) (eqb s.1 q.1) refl refl
 
 -- a new symbol of the key's name is put at the end
 pub pushed : (es : Entries) (k : Name) (v : Vec Numbered Global) (listed : List Listed) (s : Listed) → AreNumbered es listed → IsSymbolName k.items → length listed < 2 ^ 32 - 1
-    → IsNowhere (symbols_in (names_of es) listed) (k.items, s.arity) → v.items ≡ numbers_at es k.items ++ (record { arity = s.arity; number = length listed }) ∷ []
+    → IsNowhere (symbols_in (names_of es) listed) (k.items, s.arity) → HasAdded (numbers_at es k.items) (record { arity = s.arity; number = length listed }) v.items → IsRising v.items
     → s.name ≡ place es k → s.name < length (insert_entry eq es k v) → AreNumbered (insert_entry eq es k v) (listed ++ s ∷ [])
-pushed es k v listed s old named few nowhere ve at within = record {
+pushed es k v listed s old named few nowhere ve rises at within = record {
   named = named_more es k v named old.named;
+  rising = rising_more es k v rises old.rising;
   within = within_last _ listed s (within_more _ _ listed (longer es k v) old.within) within;
   numbered = λ q. subst (λ list. (n : ℕ) → (number_at (insert_entry eq es k v) q ≡ Some n) ↔ (slice_get list n ≡ Some q)) (sym (pushed_symbols es k v listed s old.within at)) (by q (is_it (k.items, s.arity) q));
   few = omega (arith, length-append listed (s ∷ []));

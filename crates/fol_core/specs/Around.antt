@@ -1,13 +1,13 @@
 -- A formula at the end of a left spine, with the levels of the spine above it.
 use Rattle.std.specs.Prelude.{List, [], ◌∷◌}
-use Rattle.fol_core.specs.Syntax.{PlainFormula, not, and, or, imp, iff, all, ex}
-use Rattle.fol_core.specs.View.{formula_of}
+use Rattle.fol_core.specs.Syntax.{FormulaOver, not, and, or, imp, iff, all, ex}
+use Rattle.fol_core.specs.View.{formula_by}
 use Rattle.fol_core.specs.declared.formula.Formula.{Formula}
 use Rattle.fol_core.specs.declared.formula.Formula.TheVariants as formula
 use Rattle.fol_core.specs.declared.spine.Wrap.{Wrap}
 use Rattle.fol_core.specs.declared.spine.Wrap.TheVariants as wrap
 
-abbrev pub in_wrap : Wrap → Formula → Formula
+abbrev pub in_wrap : {A : Type 0} → Wrap A → Formula A → Formula A
 in_wrap wrap.Not f = formula.Not f
 in_wrap (wrap.And right) f = formula.And f right
 in_wrap (wrap.Or right) f = formula.Or f right
@@ -17,20 +17,20 @@ in_wrap wrap.All f = formula.All f
 in_wrap wrap.Ex f = formula.Ex f
 
 -- the levels from the outermost to the innermost, around f
-abbrev pub around : List Wrap → Formula → Formula
+abbrev pub around : {A : Type 0} → List (Wrap A) → Formula A → Formula A
 around [] f = f
 around (w ∷ ws) f = in_wrap w (around ws f)
 
--- the same on plain trees
-abbrev pub plain_in_wrap : Wrap → PlainFormula → PlainFormula
-plain_in_wrap wrap.Not a = not a
-plain_in_wrap (wrap.And right) a = and a (formula_of right)
-plain_in_wrap (wrap.Or right) a = or a (formula_of right)
-plain_in_wrap (wrap.Imp right) a = imp a (formula_of right)
-plain_in_wrap (wrap.Iff right) a = iff a (formula_of right)
-plain_in_wrap wrap.All a = all a
-plain_in_wrap wrap.Ex a = ex a
+-- the same on plain trees, where view is what the arguments of an atom stand for
+abbrev pub plain_in_wrap : {A B : Type 0} → (A → B) → Wrap A → FormulaOver B → FormulaOver B
+plain_in_wrap view wrap.Not a = not a
+plain_in_wrap view (wrap.And right) a = and a (formula_by view right)
+plain_in_wrap view (wrap.Or right) a = or a (formula_by view right)
+plain_in_wrap view (wrap.Imp right) a = imp a (formula_by view right)
+plain_in_wrap view (wrap.Iff right) a = iff a (formula_by view right)
+plain_in_wrap view wrap.All a = all a
+plain_in_wrap view wrap.Ex a = ex a
 
-abbrev pub plain_around : List Wrap → PlainFormula → PlainFormula
-plain_around [] a = a
-plain_around (w ∷ ws) a = plain_in_wrap w (plain_around ws a)
+abbrev pub plain_around : {A B : Type 0} → (A → B) → List (Wrap A) → FormulaOver B → FormulaOver B
+plain_around view [] a = a
+plain_around view (w ∷ ws) a = plain_in_wrap view w (plain_around view ws a)

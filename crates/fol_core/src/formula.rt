@@ -1,81 +1,79 @@
+//! Formulas over atoms with arguments of any type, and what is asked of those over terms.
 ghost use Rattle.std.specs.Prelude.{◌≡◌, ◌↔◌, IsTrue, IfOk};
-ghost use Rattle.fol_core.specs.Syntax.{free_in, IsClosed, param_in};
+ghost use Rattle.fol_core.specs.Syntax.{free_in, IsClosed, param_in, param_bound};
 ghost use Rattle.fol_core.specs.View.{formula_of};
 
-use crate::spine::{Wrap, rebuilt};
 use crate::term;
-use crate::term::Term;
-use containers::{Boxed, Items};
-use std::alloc::{AllocError, Global};
+use crate::term::Terms;
+use containers::{Items, Share, Shared};
+use std::alloc::AllocError;
 
-/// A formula of first-order logic without equality.
+/// A formula of first-order logic without equality, over atoms whose arguments are of type `A`: lists of terms, if
+/// nothing else is said. A copy shares the parts with what it copies.
 ///
-/// A formula may be deep to the left without a limit. Its functions go down the left part, `~` and quantifiers in a loop, and
-/// into the right part by a call.
-pub enum Formula {
+/// A formula may be deep to the left without a limit. Its functions go down the left part, `~` and quantifiers in a
+/// loop, and into the right part by a call.
+pub enum Formula<A = Terms> {
     /// A predicate symbol's number and its arguments.
-    Atom(u32, Items<Term>),
+    Atom(u32, A),
     /// `$true`.
     Verum,
     /// `$false`.
     Falsum,
-    Not(Boxed<Formula>),
-    And(Boxed<Formula>, Boxed<Formula>),
-    Or(Boxed<Formula>, Boxed<Formula>),
-    Imp(Boxed<Formula>, Boxed<Formula>),
-    Iff(Boxed<Formula>, Boxed<Formula>),
+    Not(Shared<Formula<A>>),
+    And(Shared<Formula<A>>, Shared<Formula<A>>),
+    Or(Shared<Formula<A>>, Shared<Formula<A>>),
+    Imp(Shared<Formula<A>>, Shared<Formula<A>>),
+    Iff(Shared<Formula<A>>, Shared<Formula<A>>),
     /// `!`: the variable 0 of the body is its own.
-    All(Boxed<Formula>),
+    All(Shared<Formula<A>>),
     /// `?`
-    Ex(Boxed<Formula>),
+    Ex(Shared<Formula<A>>),
 }
 
 /// A list of formulas.
 pub type Formulas = Items<Formula>;
 
-/// A chain nests to the left without a limit, so the left parts are let go in a loop and the right ones by calls.
-impl Drop for Formula {
+/// A chain nests to the left without a limit, so the left parts are let go in a loop and the right ones by calls. A
+/// part that has other owners is left to them.
+impl<A: Drop> Drop for Formula<A> {
     fn drop(mut self) {
         loop {
             match self {
                 Formula::Atom(_, _) | Formula::Verum | Formula::Falsum => return,
-                Formula::Not(a) | Formula::All(a) | Formula::Ex(a) => self = a.into_inner(),
+                Formula::Not(a) | Formula::All(a) | Formula::Ex(a) => match a.into_inner() {
+                    Some(a) => self = a,
+                    None => return,
+                },
                 Formula::And(a, b) | Formula::Or(a, b) | Formula::Imp(a, b) | Formula::Iff(a, b) =>
                     {
                         drop(b);
-                        self = a.into_inner();
+                        match a.into_inner() {
+                            Some(a) => self = a,
+                            None => return,
+                        }
                     }
             }
         }
     }
 }
 
-impl Formula {
-    /// An equal formula.
-    #[tactic(auto, using(crate::proofs::Around::around_snoc))]
-    pub fn copy(&self, alloc: Global) -> Result<Formula, AllocError>
+impl<A: Share + Drop> Formula<A> {
+    /// An equal formula, in constant time: its parts are shared.
+    pub fn copy(&self) -> Result<Formula<A>, AllocError>
         ensures { IfOk result (λ f. f ≡ self.now) }
     {
-        let mut wraps = Vec::new(alloc);
-        let mut at = self;
-        loop {
-            let (wrap, inner) = match at {
-                Formula::Atom(p, args) => {
-                    let args = term::copy_terms(alloc, args)?;
-                    return rebuilt(alloc, Formula::Atom(*p, args), wraps);
-                }
-                Formula::Verum => return rebuilt(alloc, Formula::Verum, wraps),
-                Formula::Falsum => return rebuilt(alloc, Formula::Falsum, wraps),
-                Formula::Not(a) => (Wrap::Not, a),
-                Formula::And(a, b) => (Wrap::And(b.get().copy(alloc)?), a),
-                Formula::Or(a, b) => (Wrap::Or(b.get().copy(alloc)?), a),
-                Formula::Imp(a, b) => (Wrap::Imp(b.get().copy(alloc)?), a),
-                Formula::Iff(a, b) => (Wrap::Iff(b.get().copy(alloc)?), a),
-                Formula::All(a) => (Wrap::All, a),
-                Formula::Ex(a) => (Wrap::Ex, a),
-            };
-            wraps.push(wrap)?;
-            at = inner.get();
+        match self {
+            Formula::Atom(p, args) => Ok(Formula::Atom(*p, args.share()?)),
+            Formula::Verum => Ok(Formula::Verum),
+            Formula::Falsum => Ok(Formula::Falsum),
+            Formula::Not(a) => Ok(Formula::Not(a.copy()?)),
+            Formula::And(a, b) => Ok(Formula::And(a.copy()?, b.copy()?)),
+            Formula::Or(a, b) => Ok(Formula::Or(a.copy()?, b.copy()?)),
+            Formula::Imp(a, b) => Ok(Formula::Imp(a.copy()?, b.copy()?)),
+            Formula::Iff(a, b) => Ok(Formula::Iff(a.copy()?, b.copy()?)),
+            Formula::All(a) => Ok(Formula::All(a.copy()?)),
+            Formula::Ex(a) => Ok(Formula::Ex(a.copy()?)),
         }
     }
 }
@@ -114,7 +112,7 @@ pub fn same(a: &Formula, b: &Formula) -> bool
 }
 
 /// How many quantifiers have to stand around the formula, so that each variable in it is bound.
-#[tactic(auto, using(crate::proofs::Depth::remains_start, crate::proofs::Depth::remains_quantifier, crate::proofs::Depth::remains_binary, crate::proofs::Depth::remains_end))]
+#[tactic(auto, using(crate::proofs::Depth::remaining))]
 fn free_in(f: &Formula) -> u64
     ensures { result ≡ free_in (formula_of f.now) }
 {
@@ -161,6 +159,25 @@ pub fn occurs_param(f: &Formula, param: u64) -> bool
                 if occurs_param(b.get(), param) {
                     return true;
                 }
+                at = a.get();
+            }
+        }
+    }
+}
+
+/// The least number above every parameter in the formula. It takes no memory.
+pub fn param_bound(f: &Formula) -> u128
+    ensures { result ≡ param_bound (formula_of f.now) }
+{
+    let mut at = f;
+    let mut most = 0u128;
+    loop {
+        match at {
+            Formula::Atom(_, args) => return most.max(term::param_bound_in_all(args)),
+            Formula::Verum | Formula::Falsum => return most,
+            Formula::Not(a) | Formula::All(a) | Formula::Ex(a) => at = a.get(),
+            Formula::And(a, b) | Formula::Or(a, b) | Formula::Imp(a, b) | Formula::Iff(a, b) => {
+                most = most.max(param_bound(b.get()));
                 at = a.get();
             }
         }

@@ -1,7 +1,8 @@
-ghost use Rattle.std.specs.Prelude.{◌≡◌, ◌++◌, ◌∷◌, [], length, slice_get, option_map, IfSome, IfOk, OnOk, OnErr};
+//! Symbols numbered in the order in which they came.
+ghost use Rattle.std.specs.Prelude.{◌≡◌, ◌≤◌, ◌++◌, ◌∷◌, [], length, slice_get, option_map, IfSome, IfOk, OnOk, OnErr};
 ghost use Rattle.std.specs.Option.{option_copied};
 ghost use Rattle.fol_core.specs.Symbol.{IsSymbolName, IsNumberOf, IsAt, IsNowhere, Interns, AreSymbols};
-ghost use Rattle.fol_core.specs.SymbolList.{number_in, numbers_at};
+ghost use Rattle.fol_core.specs.SymbolList.{number_in, numbers_at, IsRising, IsPlaceOf, HasAdded};
 
 use containers::Log;
 use indexmap::IndexMap;
@@ -25,6 +26,7 @@ pub(crate) struct Listed {
 /// Symbols, numbered from 0 in the order in which they came.
 #[derive(Drop)]
 pub(crate) struct Numbering {
+    /// Each name with its numbers of arguments, which rise, so that one of them is found by halving.
     names: IndexMap<Vec<u8>, Vec<Numbered>>,
     symbols: Log<Listed>,
 }
@@ -44,15 +46,24 @@ impl Model for Numbering {
     ghost invariant = { IsNumbering };
 }
 
+/// Where the first entry stands whose number of arguments is not below `arity`, in a list in which these rise.
+fn place_of(numbers: &[Numbered], arity: u32) -> usize
+    requires { IsRising numbers.now }
+    ensures within { result ≤ length numbers.now }
+    ensures place { IsPlaceOf numbers.now arity result }
+{
+    numbers.partition_point(|entry| entry.arity < arity)
+}
+
 fn number_in(numbers: &[Numbered], arity: u32) -> Option<u32>
+    requires { IsRising numbers.now }
     ensures { result ≡ number_in numbers.now arity }
 {
-    for entry in numbers {
-        if entry.arity == arity {
-            return Some(entry.number);
-        }
+    match numbers.get(place_of(numbers, arity)) {
+        Some(entry) if entry.arity == arity => Some(entry.number),
+        Some(_) => None,
+        None => None,
     }
-    None
 }
 
 /// The arities of a name, with their numbers.
@@ -65,16 +76,20 @@ fn numbers_at<'a>(names: &'a IndexMap<Vec<u8>, Vec<Numbered>>, name: &[u8]) -> &
     }
 }
 
+/// The list with a new entry at its place.
 fn with_number(
     alloc: Global,
     numbers: &[Numbered],
-    last: Numbered,
+    new: Numbered,
 ) -> Result<Vec<Numbered>, AllocError>
-    ensures { IfOk result (λ v. v.items ≡ numbers.now ++ last ∷ []) }
+    requires { IsRising numbers.now }
+    ensures added { IfOk result (λ v. HasAdded numbers.now new v.items) }
+    ensures rising { IfOk result (λ v. IsRising v.items) }
 {
+    let place = place_of(numbers, new.arity);
     let mut out = Vec::new(alloc);
     out.extend_from_slice(numbers)?;
-    out.push(last)?;
+    out.insert(place, new)?;
     Ok(out)
 }
 

@@ -1,3 +1,5 @@
+//! How symbols and terms are written in a proof.
+
 ghost use Rattle.std.specs.Prelude.{◌≡◌, ◌++◌, OnOk, OnErr};
 ghost use Rattle.std.specs.List.{list_all, flat_map};
 ghost use Rattle.fol_core.specs.Spelling.{is_word_byte, is_lower_word, escaped, spelled_symbol, spelled_param, spelled, spelled_arguments, IsOver, AreOver, IsGrown};
@@ -37,7 +39,7 @@ fn is_lower_word(name: &[u8]) -> bool
 }
 
 /// Appends the name with a backslash before each quote and each backslash.
-#[tactic(auto, using(crate::proofs::Grown::grown_none, crate::proofs::Grown::grown_by, crate::proofs::Grown::grown_on, crate::proofs::Grown::cut_back))]
+#[tactic(auto, using(crate::proofs::Grown::growing))]
 fn escape(name: &[u8], out: &mut Vec<u8>) -> Result<(), AllocError>
     ensures ok { OnOk result (out.new.items ≡ out.old.items ++ flat_map escaped name.now) }
     ensures grows { IsGrown out.old.items out.new.items }
@@ -51,7 +53,7 @@ fn escape(name: &[u8], out: &mut Vec<u8>) -> Result<(), AllocError>
     Ok(())
 }
 
-#[tactic(auto, using(crate::proofs::Grown::grown_none, crate::proofs::Grown::grown_by, crate::proofs::Grown::grown_on, crate::proofs::Grown::cut_back))]
+#[tactic(auto, using(crate::proofs::Grown::growing))]
 fn append_symbol(name: &[u8], out: &mut Vec<u8>) -> Result<(), AllocError>
     ensures ok { OnOk result (out.new.items ≡ out.old.items ++ spelled_symbol name.now) }
     ensures grows { IsGrown out.old.items out.new.items }
@@ -67,7 +69,7 @@ fn append_symbol(name: &[u8], out: &mut Vec<u8>) -> Result<(), AllocError>
 
 /// Appends the spelling of a symbol of this name: a lower word as it is, and any other name in single quotes. After an
 /// error `out` is as it was.
-#[tactic(auto, using(crate::proofs::Grown::grown_none, crate::proofs::Grown::grown_by, crate::proofs::Grown::grown_on, crate::proofs::Grown::cut_back))]
+#[tactic(auto, using(crate::proofs::Grown::growing))]
 pub fn spell_symbol(name: &[u8], out: &mut Vec<u8>) -> Result<(), AllocError>
     ensures ok { OnOk result (out.new.items ≡ out.old.items ++ spelled_symbol name.now) }
     ensures err { OnErr result (out.new.items ≡ out.old.items) }
@@ -80,7 +82,7 @@ pub fn spell_symbol(name: &[u8], out: &mut Vec<u8>) -> Result<(), AllocError>
     done
 }
 
-#[tactic(auto, using(crate::proofs::Grown::grown_none, crate::proofs::Grown::grown_by, crate::proofs::Grown::grown_on, crate::proofs::Grown::cut_back))]
+#[tactic(auto, using(crate::proofs::Grown::growing))]
 fn append_param(param: u64, out: &mut Vec<u8>) -> Result<(), AllocError>
     ensures ok { OnOk result (out.new.items ≡ out.old.items ++ spelled_param param) }
     ensures grows { IsGrown out.old.items out.new.items }
@@ -91,7 +93,7 @@ fn append_param(param: u64, out: &mut Vec<u8>) -> Result<(), AllocError>
 }
 
 #[cycle(append)]
-#[tactic(auto, using(crate::proofs::Grown::grown_none, crate::proofs::Grown::grown_by, crate::proofs::Grown::grown_on, crate::proofs::Grown::cut_back))]
+#[tactic(auto, using(crate::proofs::Grown::growing))]
 fn append_term(symbols: &Symbols, term: &Term, out: &mut Vec<u8>) -> Result<(), AllocError>
     requires { IsOver symbols.now.functions (term_of term.now) }
     ensures ok { OnOk result (out.new.items ≡ out.old.items ++ spelled symbols.now.functions (term_of term.now)) }
@@ -102,20 +104,21 @@ fn append_term(symbols: &Symbols, term: &Term, out: &mut Vec<u8>) -> Result<(), 
         Term::Param(param) => append_param(*param, out),
         Term::App(function, arguments) => {
             append_symbol(symbols.function_name(*function).unwrap_or(b""), out)?;
-            append_arguments(symbols, arguments.as_slice(), out)
+            append_arguments(symbols, arguments.get().as_slice(), out)
         }
     }
 }
 
 #[cycle(append)]
-#[tactic(auto, using(crate::proofs::Grown::grown_none, crate::proofs::Grown::grown_by, crate::proofs::Grown::grown_on, crate::proofs::Grown::cut_back))]
+#[tactic(auto, using(crate::proofs::Grown::growing))]
 fn append_arguments(
     symbols: &Symbols,
     arguments: &[Term],
     out: &mut Vec<u8>,
 ) -> Result<(), AllocError>
     requires { AreOver symbols.now.functions (terms_of arguments.now) }
-    ensures ok { OnOk result (out.new.items ≡ out.old.items ++ spelled_arguments symbols.now.functions (terms_of arguments.now)) }
+    ensures ok { OnOk result (out.new.items
+        ≡ out.old.items ++ spelled_arguments symbols.now.functions (terms_of arguments.now)) }
     ensures grows { IsGrown out.old.items out.new.items }
 {
     let mut opened = false;
@@ -130,9 +133,9 @@ fn append_arguments(
     Ok(())
 }
 
-/// Appends the spelling of a closed term: a parameter `#n`, or a function symbol with its arguments in parentheses. After
-/// an error `out` is as it was.
-#[tactic(auto, using(crate::proofs::Grown::grown_none, crate::proofs::Grown::grown_by, crate::proofs::Grown::grown_on, crate::proofs::Grown::cut_back))]
+/// Appends the spelling of a closed term: a parameter `#n`, or a function symbol with its arguments in parentheses.
+/// After an error `out` is as it was.
+#[tactic(auto, using(crate::proofs::Grown::growing))]
 pub fn spell_term(symbols: &Symbols, term: &Term, out: &mut Vec<u8>) -> Result<(), AllocError>
     requires { IsOver symbols.now.functions (term_of term.now) }
     ensures ok { OnOk result (out.new.items ≡ out.old.items ++ spelled symbols.now.functions (term_of term.now)) }

@@ -1,8 +1,9 @@
-ghost use Rattle.std.specs.Prelude.{◌≡◌, ◌↔◌, IsTrue, IfOk};
-ghost use Rattle.fol_core.specs.Syntax.{open_term, open_terms, free_in_term, free_in_terms, IsClosedTerm, param_in_term, param_in_terms};
+//! Terms, and what is asked of them.
+ghost use Rattle.std.specs.Prelude.{◌≡◌, ◌↔◌, ◌<◌, ◌++◌, ◌∷◌, [], suc, length, take, get_or, unwrap_or, IsTrue, IfOk};
+ghost use Rattle.fol_core.specs.Syntax.{open_term, open_terms, free_in_term, free_in_terms, IsClosedTerm, param_in_term, param_in_terms, param_bound_in_term, param_bound_in_terms};
 ghost use Rattle.fol_core.specs.View.{term_of, terms_of};
 
-use containers::Items;
+use containers::{Items, Share, Shared, with_next};
 use std::alloc::{AllocError, Global};
 
 /// A term of first-order logic.
@@ -13,66 +14,76 @@ pub enum Term {
     /// A parameter, which stands for one object and is written `#n`.
     Param(u64),
     /// A function symbol's number and its arguments.
-    App(u32, Items<Term>),
+    App(u32, Terms),
 }
 
-/// A list of terms.
-pub type Terms = Items<Term>;
+/// A list of terms, shared by all copies of it.
+pub type Terms = Shared<Items<Term>>;
 
 impl Term {
-    /// An equal term.
-    #[cycle(copy)]
-    pub fn copy(&self, alloc: Global) -> Result<Term, AllocError>
+    /// An equal term, in constant time: the arguments are shared.
+    pub fn copy(&self) -> Result<Term, AllocError>
         ensures { IfOk result (λ t. t ≡ self.now) }
     {
         match self {
             Term::Bound(n) => Ok(Term::Bound(*n)),
             Term::Param(n) => Ok(Term::Param(*n)),
-            Term::App(f, args) => Ok(Term::App(*f, copy_terms(alloc, args)?)),
+            Term::App(f, args) => Ok(Term::App(*f, args.copy()?)),
         }
     }
 }
 
-#[cycle(copy)]
-pub(crate) fn copy_terms(alloc: Global, terms: &Items<Term>) -> Result<Items<Term>, AllocError>
-    ensures { IfOk result (λ ts. ts ≡ terms.now) }
-{
-    let mut out = Items::new(alloc);
-    for term in terms.as_slice() {
-        let term = term.copy(alloc)?;
-        out.push(term)?;
+impl Share for Term {
+    fn share(&self) -> Result<Term, AllocError>
+        ensures { IfOk result (λ other. other ≡ self.now) }
+    {
+        self.copy()
     }
-    Ok(out)
 }
 
-/// `term` with the closed term `by` in place of the variable `level`.
+/// `term` with the closed term `by` in place of the variable `level`. None says that it is the term itself.
 #[cycle(open)]
-pub(crate) fn opened(alloc: Global, term: &Term, level: u32, by: &Term) -> Result<Term, AllocError>
-    ensures { IfOk result (λ t. term_of t ≡ open_term level (term_of by.now) (term_of term.now)) }
+pub(crate) fn opened(
+    alloc: Global,
+    term: &Term,
+    level: u32,
+    by: &Term,
+) -> Result<Option<Term>, AllocError>
+    ensures { IfOk result (λ t. term_of (unwrap_or t term.now)
+        ≡ open_term level (term_of by.now) (term_of term.now)) }
 {
     match term {
-        Term::Bound(n) if *n == level => by.copy(alloc),
-        Term::Bound(n) => Ok(Term::Bound(*n)),
-        Term::Param(n) => Ok(Term::Param(*n)),
-        Term::App(f, args) => Ok(Term::App(*f, all_opened(alloc, args, level, by)?)),
+        Term::Bound(n) if *n == level => Ok(Some(by.copy()?)),
+        Term::Bound(_) => Ok(None),
+        Term::Param(_) => Ok(None),
+        Term::App(f, args) => match all_opened(alloc, args, level, by)? {
+            Some(args) => Ok(Some(Term::App(*f, args))),
+            None => Ok(None),
+        },
     }
 }
 
+/// The same of a list. None says that each term of it is unchanged.
 #[cycle(open)]
 pub(crate) fn all_opened(
     alloc: Global,
-    terms: &Items<Term>,
+    terms: &Terms,
     level: u32,
     by: &Term,
-) -> Result<Items<Term>, AllocError>
-    ensures { IfOk result (λ ts. terms_of ts ≡ open_terms level (term_of by.now) (terms_of terms.now)) }
+) -> Result<Option<Terms>, AllocError>
+    ensures { IfOk result (λ ts. terms_of (unwrap_or ts terms.now)
+        ≡ open_terms level (term_of by.now) (terms_of terms.now)) }
 {
-    let mut out = Items::new(alloc);
-    for term in terms.as_slice() {
-        let term = opened(alloc, term, level, by)?;
-        out.push(term)?;
+    let terms = terms.get().as_slice();
+    let mut out = None;
+    for i in 0..terms.len() {
+        let term = opened(alloc, &terms[i], level, by)?;
+        out = with_next(alloc, out, &terms[..i], &terms[i], term)?;
     }
-    Ok(out)
+    match out {
+        Some(out) => Ok(Some(Shared::new(alloc, out)?)),
+        None => Ok(None),
+    }
 }
 
 /// How many quantifiers have to stand around the term, so that each variable in it is bound.
@@ -88,11 +99,11 @@ pub(crate) fn free_in(term: &Term) -> u64
 }
 
 #[cycle(free)]
-pub(crate) fn free_in_all(terms: &Items<Term>) -> u64
+pub(crate) fn free_in_all(terms: &Terms) -> u64
     ensures { result ≡ free_in_terms (terms_of terms.now) }
 {
     let mut most = 0;
-    for term in terms.as_slice() {
+    for term in terms.get().as_slice() {
         most = most.max(free_in(term));
     }
     most
@@ -110,15 +121,38 @@ pub(crate) fn has_param(term: &Term, param: u64) -> bool
 }
 
 #[cycle(param)]
-pub(crate) fn any_has_param(terms: &Items<Term>, param: u64) -> bool
+pub(crate) fn any_has_param(terms: &Terms, param: u64) -> bool
     ensures { result ≡ param_in_terms param (terms_of terms.now) }
 {
-    for term in terms.as_slice() {
+    for term in terms.get().as_slice() {
         if has_param(term, param) {
             return true;
         }
     }
     false
+}
+
+/// The least number above every parameter in the term. It takes no memory.
+#[cycle(bound)]
+pub fn param_bound_in_term(term: &Term) -> u128
+    ensures { result ≡ param_bound_in_term (term_of term.now) }
+{
+    match term {
+        Term::Bound(_) => 0,
+        Term::Param(n) => *n as u128 + 1,
+        Term::App(_, args) => param_bound_in_all(args),
+    }
+}
+
+#[cycle(bound)]
+pub(crate) fn param_bound_in_all(terms: &Terms) -> u128
+    ensures { result ≡ param_bound_in_terms (terms_of terms.now) }
+{
+    let mut most = 0;
+    for term in terms.get().as_slice() {
+        most = most.max(param_bound_in_term(term));
+    }
+    most
 }
 
 #[cycle(same)]
@@ -135,9 +169,11 @@ pub(crate) fn same_term(a: &Term, b: &Term) -> bool
 
 /// Whether the two lists are equal. It takes no memory.
 #[cycle(same)]
-pub fn same_terms(a: &Items<Term>, b: &Items<Term>) -> bool
+pub fn same_terms(a: &Terms, b: &Terms) -> bool
     ensures { IsTrue result ↔ (a.now ≡ b.now) }
 {
+    let a = a.get();
+    let b = b.get();
     if a.len() != b.len() {
         return false;
     }

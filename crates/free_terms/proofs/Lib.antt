@@ -1,5 +1,5 @@
-pub mod Around
 pub mod Trees
 pub mod Filled
 pub mod Params
 pub mod Matched
+pub mod Injective

@@ -1,4 +1,3 @@
-pub mod Around
 pub mod Free
 pub mod Gives
 pub mod Matching

@@ -1,6 +1,7 @@
 -- The plain trees that the program's free terms and formulas stand for.
 use Rattle.std.specs.Prelude.{List, map, Option, Some, None}
-use Rattle.fol_core.specs.Syntax.{atom, verum, falsum, not, and, or, imp, iff, all, ex}
+use Rattle.fol_core.specs.View.{formula_by}
+use Rattle.fol_core.specs.declared.formula.Formula.{Formula}
 use Rattle.free_terms.specs.Free as free
 use Rattle.free_terms.specs.Free.{FreeFormula}
 use Rattle.free_terms.specs.declared.term.Name.{Name}
@@ -8,8 +9,6 @@ use Rattle.free_terms.specs.declared.term.FTerm.{FTerm, fold-FTerm}
 use Rattle.free_terms.specs.declared.term.FTerm.TheOpen.{FTerm-F}
 use Rattle.free_terms.specs.declared.fills.Fill.{Fill}
 use Rattle.free_terms.specs.declared.fills.Fill.TheVariants as fill
-use Rattle.free_terms.specs.declared.formula.FFormula.{FFormula, fold-FFormula}
-use Rattle.free_terms.specs.declared.formula.FFormula.TheOpen.{FFormula-F}
 
 abbrev pub name_of : Name → free.Name
 name_of x = record { segment = x.segment; count = x.count }
@@ -27,22 +26,14 @@ term_of = fold-FTerm free.FreeTerm term_level
 abbrev pub terms_of : List FTerm → free.FreeTerms
 terms_of us = free.terms_of_list (map term_of us)
 
-abbrev pub formula_level : FFormula-F FreeFormula → FreeFormula
-formula_level (FFormula-F.Atom p us) = atom p (terms_of us)
-formula_level FFormula-F.Verum = verum
-formula_level FFormula-F.Falsum = falsum
-formula_level (FFormula-F.Not a) = not a
-formula_level (FFormula-F.And a b) = and a b
-formula_level (FFormula-F.Or a b) = or a b
-formula_level (FFormula-F.Imp a b) = imp a b
-formula_level (FFormula-F.Iff a b) = iff a b
-formula_level (FFormula-F.All a) = all a
-formula_level (FFormula-F.Ex a) = ex a
+-- a formula over terms with metavariables and Skolem terms
+abbrev pub FreeTermFormula : Type 0
+FreeTermFormula = Formula (List FTerm)
 
-abbrev pub formula_of : FFormula → FreeFormula
-formula_of = fold-FFormula FreeFormula formula_level
+abbrev pub formula_of : FreeTermFormula → FreeFormula
+formula_of = formula_by terms_of
 
-abbrev pub formulas_of : List FFormula → List FreeFormula
+abbrev pub formulas_of : List FreeTermFormula → List FreeFormula
 formulas_of fs = map formula_of fs
 
 abbrev pub fill_of : Fill → Option free.FreeTerm

@@ -1,3 +1,4 @@
+//! What stands for variables.
 use crate::term::FTerm;
 use containers::Items;
 

@@ -7,7 +7,6 @@ mod formula;
 mod lifting;
 mod matching;
 mod same;
-mod spine;
 mod term;
 
 pub use filling::{fill, fill_all};
@@ -15,7 +14,5 @@ pub use fills::{Fill, Fills};
 pub use formula::{FFormula, FFormulas};
 pub use lifting::lift;
 pub use matching::match_into;
+pub use same::same_term;
 pub use term::{FTerm, FTerms, Name};
-
-#[cfg(test)]
-mod tests;

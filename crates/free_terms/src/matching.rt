@@ -1,3 +1,4 @@
+//! One-sided matching.
 ghost use Rattle.std.specs.Prelude.{◌≡◌, ◌↔◌, option_map, IfOk, IsTrue};
 ghost use Rattle.fol_core.specs.View as plain;
 ghost use Rattle.free_terms.specs.Free as free;
@@ -21,7 +22,8 @@ pub fn match_into(
     count: u32,
     target: &FTerms,
 ) -> Result<Option<Fills>, AllocError>
-    ensures { IfOk result (λ found. Matches (plain.terms_of pattern.now) count (terms_of target.now) (option_map fills_of found)) }
+    ensures { IfOk result (λ found. Matches (plain.terms_of pattern.now) count (terms_of target.now)
+        (option_map fills_of found)) }
 {
     let mut fills = none_given(alloc, count)?;
     if match_terms(&mut fills, pattern, target)? {
@@ -53,7 +55,8 @@ fn is_bound(t: &FTerm, n: u32) -> bool
 
 /// Gives the variable the term, or sees whether what it was given is that term.
 fn match_variable(fills: &mut Fills, n: u32, t: &FTerm) -> Result<bool, AllocError>
-    ensures { IfOk result (λ told. Tells (fills_of fills.old) (fills_of fills.new) (syntax.bound n) (term_of t.now) told) }
+    ensures { IfOk result (λ told. Tells (fills_of fills.old) (fills_of fills.new)
+        (syntax.bound n) (term_of t.now) told) }
 {
     match fills.get(n as usize) {
         Some(Fill::Given(u)) => return Ok(same_term(u, t)),
@@ -67,7 +70,8 @@ fn match_variable(fills: &mut Fills, n: u32, t: &FTerm) -> Result<bool, AllocErr
 
 #[cycle(matching)]
 fn match_term(fills: &mut Fills, p: &Term, t: &FTerm) -> Result<bool, AllocError>
-    ensures { IfOk result (λ told. Tells (fills_of fills.old) (fills_of fills.new) (plain.term_of p.now) (term_of t.now) told) }
+    ensures { IfOk result (λ told. Tells (fills_of fills.old) (fills_of fills.new)
+        (plain.term_of p.now) (term_of t.now) told) }
 {
     match p {
         Term::Bound(n) => match_variable(fills, *n, t),
@@ -81,9 +85,10 @@ fn match_term(fills: &mut Fills, p: &Term, t: &FTerm) -> Result<bool, AllocError
 
 #[cycle(matching)]
 fn match_terms(fills: &mut Fills, ps: &Terms, us: &FTerms) -> Result<bool, AllocError>
-    ensures { IfOk result (λ told. TellsAll (fills_of fills.old) (fills_of fills.new) (plain.terms_of ps.now) (terms_of us.now) told) }
+    ensures { IfOk result (λ told. TellsAll (fills_of fills.old) (fills_of fills.new)
+        (plain.terms_of ps.now) (terms_of us.now) told) }
 {
-    let ps = ps.as_slice();
+    let ps = ps.get().as_slice();
     let us = us.get().as_slice();
     if ps.len() != us.len() {
         return Ok(false);

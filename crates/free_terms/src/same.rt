@@ -1,11 +1,13 @@
+//! Equality of terms.
+
 ghost use Rattle.std.specs.Prelude.{◌≡◌, ◌↔◌, IsTrue};
 ghost use Rattle.free_terms.specs.View.{term_of, terms_of};
 
 use crate::term::{FTerm, FTerms};
 
-/// Whether the two terms are one.
+/// Whether the two terms are one. It takes no memory.
 #[cycle(same)]
-pub(crate) fn same_term(a: &FTerm, b: &FTerm) -> bool
+pub fn same_term(a: &FTerm, b: &FTerm) -> bool
     ensures { IsTrue result ↔ (term_of a.now ≡ term_of b.now) }
 {
     match a {

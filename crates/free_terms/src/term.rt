@@ -1,10 +1,11 @@
+//! Terms with metavariables and Skolem terms.
 ghost use Rattle.std.specs.Prelude.{◌≡◌, IfOk};
 
-use containers::{Items, Shared};
+use containers::{Items, Share, Shared};
 use std::alloc::{AllocError, Global};
 
 /// The name of a metavariable or of a Skolem symbol: the segment that made it, and its number there, from 1.
-#[derive(Clone, Copy, Debug, PartialEq, Eq)]
+#[derive(Clone, Copy, Debug, PartialEq, Eq, Hash)]
 pub struct Name {
     pub segment: u128,
     pub count: u32,
@@ -37,5 +38,13 @@ impl FTerm {
             FTerm::Skolem(x, us) => Ok(FTerm::Skolem(*x, us.copy()?)),
             FTerm::App(f, us) => Ok(FTerm::App(*f, us.copy()?)),
         }
+    }
+}
+
+impl Share for FTerm {
+    fn share(&self) -> Result<FTerm, AllocError>
+        ensures { IfOk result (λ other. other ≡ self.now) }
+    {
+        self.copy()
     }
 }

@@ -7,6 +7,6 @@ use Rattle.fol_core.proofs.formula.+free_in.Given as goal
 
 abbrev pub invariant-loop-at : goal.invariant-loop-at
 invariant-loop-at l = record {
-  smaller : size-Formula l.at ≤ size-Formula l.initial.at;
+  smaller : size-Formula _ l.at ≤ size-Formula _ l.initial.at;
   remains : Remains (2 ^ 64 - 1) l.depth l.most (free_in (formula_of l.at)) (free_in (formula_of l.initial.at));
 }
