@@ -2,7 +2,8 @@
 use Rattle.std.proofs.Common.{◌≡◌, ℕ, ◌<◌, ◌≤◌, List, length, Option}
 use Rattle.std.specs.Prelude.{IfSome}
 use Rattle.gl_outside.proofs.Told.{told_too}
-use Rattle.goeland_run.specs.Run.{prove_words, most_bytes, Answers, Fits}
+use Rattle.fof_parse.specs.TheProblem.{most_bytes}
+use Rattle.goeland_run.specs.Run.{prove_words, Answers, Fits}
 use Rattle.goeland_run.specs.declared.run.Report.{Report}
 use Rattle.goeland_run.specs.declared.run.Report.TheVariants.{Usage, TooLarge, Refused, NotBuilt, ReadFault, GaveUp, Proved}
 

@@ -2,8 +2,7 @@
 use Rattle.std.proofs.Common.{◌≡◌, ℕ, Bool, true, false, List, [], ◌∷◌, ◌++◌, Option, Some, None, ap, refl, sym, ◌∙◌, append-nil}
 use Rattle.std.specs.List.{AllByRecursion, filter}
 use Rattle.std.specs.Prelude.{option_map, is_some}
-use Rattle.fol_core.specs.declared.formula.Formula.{Formula}
-use Rattle.fol_core.specs.View.{formula_of}
+use Rattle.fol_core.specs.View.{TermFormula, formula_of}
 use Rattle.std.proofs.lemmas.Grind.{flat_map-append}
 use Rattle.std.proofs.lemmas.List.Elements.{filter-append}
 use Rattle.fol_core.specs.Symbol.{Symbol}
@@ -43,6 +42,6 @@ head_silent false = refl
 pub printed_text : (functions : List Symbol) (theorem : Bool) (text : List ℕ) (t : ProofTree) → ProofText functions text t → ProofText functions (text_of (head_lines theorem) ++ (text ++ text_of last_lines)) t
 printed_text functions theorem text t p = commented functions (head_lines theorem) last_lines text t (head_whole theorem) (head_silent theorem) (refl, tt) refl p
 
-pub some_map : (o : Option Formula) → is_some o ≡ is_some (option_map formula_of o)
+pub some_map : (o : Option TermFormula) → is_some o ≡ is_some (option_map formula_of o)
 some_map None = refl
 some_map (Some a) = refl

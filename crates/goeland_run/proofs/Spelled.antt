@@ -1,5 +1,5 @@
 -- A refutation of a propositional list instantiates nothing, so that a text can spell its steps.
-use Rattle.std.proofs.Common.{◌≡◌, List, [], ◌∷◌, ◌++◌, map, Some, slice_get, sym, subst}
+use Rattle.std.proofs.Common.{◌≡◌, List, [], ◌∷◌, ◌++◌, Some, slice_get, sym, subst}
 use Rattle.std.specs.List.{AllByRecursion}
 use Rattle.fol_core.specs.Syntax.{PlainFormula, atom, verum, falsum, not, and, or, imp, iff, all, ex}
 use Rattle.fol_core.specs.Symbol.{Symbol}
@@ -51,28 +51,28 @@ no_gamma f (not (iff a b)) part h e = cc
 no_gamma f (not (all a)) part h e = h
 no_gamma f (not (ex a)) part h e = h
 
-abbrev Grown : List PlainFormula → List (List PlainFormula) → Type 0
-Grown list appended = AllByRecursion ArePropositional (map (λ a. list ++ a) appended)
+abbrev AllPropositional : List (List PlainFormula) → Type 0
+AllPropositional lists = AllByRecursion ArePropositional lists
 
-grown : (list : List PlainFormula) (rule : Rule) (appended : List (List PlainFormula)) → ArePropositional list → Step list rule appended → Grown list appended
-grown list (close i j) appended h (c, same) = subst (Grown list) (sym same) tt
-grown list (false_at i) appended h (c, same) = subst (Grown list) (sym same) tt
-grown list (not_true i) appended h (c, same) = subst (Grown list) (sym same) tt
-grown list (alpha i) appended h (parts, at, same) = subst (Grown list) (sym same) (alpha_grows list parts i at h, tt)
-grown list (beta i) appended h (left, right, at, same) = let g = beta_grows list left right i at h in subst (Grown list) (sym same) (g.0, (g.1, tt))
-grown list (delta i n) appended h (part, at, fresh, same) =
+grown : (list : List PlainFormula) (rule : Rule) (lists : List (List PlainFormula)) → ArePropositional list → Step list rule lists → AllPropositional lists
+grown list (close i j) lists h (c, same) = subst AllPropositional (sym same) tt
+grown list (false_at i) lists h (c, same) = subst AllPropositional (sym same) tt
+grown list (not_true i) lists h (c, same) = subst AllPropositional (sym same) tt
+grown list (alpha i) lists h (parts, at, same) = subst AllPropositional (sym same) (alpha_grows list parts i at h, tt)
+grown list (beta i) lists h (left, right, at, same) = let g = beta_grows list left right i at h in subst AllPropositional (sym same) (g.0, (g.1, tt))
+grown list (delta i n) lists h (part, at, fresh, same) =
     let e = entry_with (delta_part _) (slice_get list i) part at in absurd (no_delta _ e.0 part (propositional_at list i e.0 h e.1) e.2)
-grown list (gamma i t) appended h (part, at, closed, same) =
+grown list (gamma i t) lists h (part, at, closed, same) =
     let e = entry_with (gamma_part _) (slice_get list i) part at in absurd (no_gamma _ e.0 part (propositional_at list i e.0 h e.1) e.2)
 
-spelled_step : (functions : List Symbol) (list : List PlainFormula) (rule : Rule) (appended : List (List PlainFormula)) → ArePropositional list → Step list rule appended → IsSpellableTerm functions rule
-spelled_step functions list (close i j) appended h s = tt
-spelled_step functions list (false_at i) appended h s = tt
-spelled_step functions list (not_true i) appended h s = tt
-spelled_step functions list (alpha i) appended h s = tt
-spelled_step functions list (beta i) appended h s = tt
-spelled_step functions list (delta i n) appended h s = tt
-spelled_step functions list (gamma i t) appended h (part, at, closed, same) =
+spelled_step : (functions : List Symbol) (list : List PlainFormula) (rule : Rule) (lists : List (List PlainFormula)) → ArePropositional list → Step list rule lists → IsSpellableTerm functions rule
+spelled_step functions list (close i j) lists h s = tt
+spelled_step functions list (false_at i) lists h s = tt
+spelled_step functions list (not_true i) lists h s = tt
+spelled_step functions list (alpha i) lists h s = tt
+spelled_step functions list (beta i) lists h s = tt
+spelled_step functions list (delta i n) lists h s = tt
+spelled_step functions list (gamma i t) lists h (part, at, closed, same) =
     let e = entry_with (gamma_part _) (slice_get list i) part at in absurd (no_gamma _ e.0 part (propositional_at list i e.0 h e.1) e.2)
 
 pub both : {A : Type 0} (P : A → Type 0) (xs ys : List A) → AllByRecursion P xs → AllByRecursion P ys → AllByRecursion P (xs ++ ys)
@@ -81,8 +81,8 @@ both P (x ∷ xs) ys h k = (h.0, both P xs ys h.1 k)
 
 mutual
   pub spelled_tree : (functions : List Symbol) (list : List PlainFormula) (t : ProofTree) → ArePropositional list → Refutes list t → AllByRecursion (IsSpellableTerm functions) (preorder t)
-  spelled_tree functions list (by rule us) h (appended, step, below) =
-      (spelled_step functions list rule appended h step, spelled_trees functions (map (λ a. list ++ a) appended) us (grown list rule appended h step) below)
+  spelled_tree functions list (by rule us) h (lists, step, below) =
+      (spelled_step functions list rule lists h step, spelled_trees functions lists us (grown list rule lists h step) below)
 
   spelled_trees : (functions : List Symbol) (lists : List (List PlainFormula)) (us : Premises) → AllByRecursion ArePropositional lists → AllRefute lists us → AllByRecursion (IsSpellableTerm functions) (preorder_each us)
   spelled_trees functions [] no_premises h below = tt

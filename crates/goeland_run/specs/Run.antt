@@ -1,8 +1,9 @@
 -- What a run answers, what it prints, and why.
-use Rattle.std.specs.Prelude.{◌≡◌, ◌≢◌, ◌⊎◌, ℕ, ◌<◌, ◌≤◌, Bool, true, false, List, [], ◌∷◌, ◌++◌, map, codes, decimal, Option, IfSome, String, string_bytes, is_some, length}
+use Rattle.std.specs.Prelude.{◌≡◌, ◌≢◌, ◌⊎◌, ℕ, ◌<◌, ◌≤◌, Bool, true, false, List, [], ◌∷◌, ◌++◌, map, length}
+use Rattle.std.specs.Prelude.{codes, decimal, Option, IfSome, String, string_bytes, is_some}
 use Rattle.gl_outside.specs.Outside.{HasRisen, Appends, AppendsFront}
 use Rattle.fof_parse.specs.Problem.{PlainProblem, Start}
-use Rattle.fof_parse.specs.TheProblem.{IsTheProblem, IsNoProblem}
+use Rattle.fof_parse.specs.TheProblem.{most_bytes, IsTheProblem, IsNoProblem}
 use Rattle.fof_parse.specs.Lines.{IsRefusal}
 use Rattle.gs3_rules.specs.Refutes.{ProofTree, Refutes}
 use Rattle.gs3_text.specs.ProofText.{text_of, ProofText}
@@ -10,7 +11,8 @@ use Rattle.prop_tableau.specs.Tableau.{Closes, IsOpen}
 use Rattle.prop_tableau.specs.Walk.{WalkAnswer, open_at, conflict, unsearched, IsWalkAnswer}
 use Rattle.goeland_run.specs.Searched.{are_searched}
 use Rattle.goeland_run.specs.declared.run.Report.{Report}
-use Rattle.goeland_run.specs.declared.run.Report.TheVariants.{Usage, TooLarge, Refused, NotBuilt, ReadFault, GaveUp, Proved}
+use Rattle.goeland_run.specs.declared.run.Report.TheVariants.{Usage, TooLarge, Refused, NotBuilt, ReadFault}
+use Rattle.goeland_run.specs.declared.run.Report.TheVariants.{GaveUp, Proved}
 use Rattle.goeland_run.specs.declared.run.Status.{Status}
 use Rattle.goeland_run.specs.declared.run.Status.TheVariants as status
 
@@ -27,7 +29,8 @@ status_line false = codes "% SZS status Unsatisfiable for -"
 
 -- the lines before a proof
 abbrev pub head_lines : Bool → List (List ℕ)
-head_lines theorem = status_line theorem ∷ codes "% depth 1" ∷ codes "% engine plain" ∷ codes "% SZS output start Proof for -" ∷ []
+head_lines theorem =
+    status_line theorem ∷ codes "% depth 1" ∷ codes "% engine plain" ∷ codes "% SZS output start Proof for -" ∷ []
 
 abbrev pub last_lines : List (List ℕ)
 last_lines = codes "% SZS output end Proof for -" ∷ []
@@ -40,7 +43,8 @@ reason_words unsearched = codes "unsearched"
 
 -- The lines where no tableau up to depth 8 closes. Without quantifiers all of them are the same tableau.
 abbrev pub given_up_lines : WalkAnswer → List (List ℕ)
-given_up_lines answer = codes "% SZS status GaveUp for -" ∷ (codes "% reason depth 8 " ++ reason_words answer) ∷ codes "% engine plain" ∷ []
+given_up_lines answer =
+    codes "% SZS status GaveUp for -" ∷ (codes "% reason depth 8 " ++ reason_words answer) ∷ codes "% engine plain" ∷ []
 
 -- what is printed before the body of a report
 abbrev pub head_of : Report → List ℕ
@@ -62,8 +66,8 @@ body_of (GaveUp text) = []
 body_of (Proved theorem body) = body.items
 
 -- all that is printed
-abbrev pub printed : Report → List ℕ
-printed r = head_of r ++ body_of r
+abbrev pub output_of : Report → List ℕ
+output_of r = head_of r ++ body_of r
 
 abbrev pub status_of : Report → Status
 status_of Usage = status.Usage
@@ -83,10 +87,6 @@ exit_of status.Refused = 3
 exit_of status.ReadFault = 4
 exit_of status.WriteFault = 5
 exit_of status.OutOfMemory = 6
-
--- the most bytes of a problem
-abbrev pub most_bytes : ℕ
-most_bytes = 16777216
 
 -- The text is a problem that has what the run does not search yet.
 pub record IsNotBuilt (bytes : List ℕ) : Type 0 where
@@ -119,10 +119,10 @@ abbrev pub Answers : List ℕ → Report → Type 0
 Answers bytes Usage = ⊥
 Answers bytes ReadFault = ⊥
 Answers bytes TooLarge = most_bytes < length bytes
-Answers bytes (Refused text) = IsNoProblem bytes × IsRefusal bytes (printed (Refused text))
+Answers bytes (Refused text) = IsNoProblem bytes × IsRefusal bytes (output_of (Refused text))
 Answers bytes NotBuilt = IsNotBuilt bytes
-Answers bytes (GaveUp text) = IsGivenUp bytes (printed (GaveUp text))
-Answers bytes (Proved theorem body) = IsProof bytes theorem (printed (Proved theorem body))
+Answers bytes (GaveUp text) = IsGivenUp bytes (output_of (GaveUp text))
+Answers bytes (Proved theorem body) = IsProof bytes theorem (output_of (Proved theorem body))
 
 -- What is reported of a problem, whose text is at hand.
 abbrev pub AnswersProblem : PlainProblem → Report → Type 0
@@ -136,20 +136,22 @@ AnswersRead told r = (bytes : List ℕ) × IfSome told (λ b. bytes ≡ b) × (l
 abbrev pub Fits : List (List ℕ) → Option (List ℕ) → ℕ → ℕ → Report → Type 0
 Fits words told before after Usage = (words ≢ prove_words) × (after ≡ before)
 Fits words told before after ReadFault = (words ≡ prove_words) × HasRisen before after
-Fits words told before after TooLarge = (words ≡ prove_words) × (after ≡ before) × IfSome told (λ b. most_bytes < length b)
+Fits words told before after TooLarge =
+    (words ≡ prove_words) × (after ≡ before) × IfSome told (λ b. most_bytes < length b)
 Fits words told before after (Refused text) = (words ≡ prove_words) × (after ≡ before) × AnswersRead told (Refused text)
 Fits words told before after NotBuilt = (words ≡ prove_words) × (after ≡ before) × AnswersRead told NotBuilt
 Fits words told before after (GaveUp text) = (words ≡ prove_words) × (after ≡ before) × AnswersRead told (GaveUp text)
-Fits words told before after (Proved theorem body) = (words ≡ prove_words) × (after ≡ before) × AnswersRead told (Proved theorem body)
+Fits words told before after (Proved theorem body) =
+    (words ≡ prove_words) × (after ≡ before) × AnswersRead told (Proved theorem body)
 
 -- The report is printed whole, or the sink failed after some front of it.
 abbrev pub Prints : Report → Option (List ℕ) → Option (List ℕ) → ℕ → ℕ → Status → Type 0
 Prints r old new before after s =
-    ((s ≡ status_of r) × Appends old (printed r) new × (after ≡ before))
-    ⊎ ((s ≡ status.WriteFault) × AppendsFront old (printed r) new × HasRisen before after)
+    ((s ≡ status_of r) × Appends old (output_of r) new × (after ≡ before))
+    ⊎ ((s ≡ status.WriteFault) × AppendsFront old (output_of r) new × HasRisen before after)
 
--- A run with these words: its report is as it has to be, and is printed. Want of memory comes only with the words of a proof; then
--- nothing was written, and no fault came.
+-- A run with these words: its report is as it has to be, and is printed. Want of memory comes only with the words of a
+-- proof; then nothing was written, and no fault came.
 abbrev pub Ran : List (List ℕ) → Option (List ℕ) → ℕ → ℕ → Option (List ℕ) → Option (List ℕ) → ℕ → ℕ → Status → Type 0
 Ran words told before after old new faults faults' s =
     ((s ≡ status.OutOfMemory) × (words ≡ prove_words) × (after ≡ before) × (new ≡ old) × (faults' ≡ faults))

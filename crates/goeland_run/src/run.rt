@@ -14,7 +14,8 @@ ghost use Rattle.gs3_text.specs.ProofText.{text_of};
 ghost use Rattle.prop_tableau.specs.Tableau.{Closes};
 ghost use Rattle.prop_tableau.specs.Answers.{walk_answer_of};
 ghost use Rattle.prop_tableau.specs.Search.{ArePropositional};
-ghost use Rattle.goeland_run.specs.Run.{prove_words, words_of, reason_words, given_up_lines, head_of, printed, status_of, Answers, AnswersProblem, Fits, Prints, Ran};
+ghost use Rattle.goeland_run.specs.Run.{prove_words, words_of, reason_words, given_up_lines, head_of, output_of};
+ghost use Rattle.goeland_run.specs.Run.{status_of, Answers, AnswersProblem, Fits, Prints, Ran};
 
 use crate::searched::are_searched;
 use fof_parse::{MAX_BYTES, Problem, ReadError, into_start_list, read_problem, refusal_line};
@@ -82,7 +83,9 @@ fn proved(
     requires refuted { RefutedBy (formulas_of start.now) (rules_of steps) }
     requires closes { Closes (formulas_of start.now) }
     requires propositional { ArePropositional (formulas_of start.now) }
-    ensures { IfOk result (λ r. (problem : PlainProblem) → problem.symbols ≡ symbols.now → is_some problem.conjecture ≡ conjectured → Start problem ≡ formulas_of start.now → AnswersProblem problem r) }
+    ensures { IfOk result (λ r. (problem : PlainProblem) → problem.symbols ≡ symbols.now
+        → is_some problem.conjecture ≡ conjectured → Start problem ≡ formulas_of start.now
+        → AnswersProblem problem r) }
 {
     let tree = tree_of(steps);
     let mut text = write_tree(alloc, symbols, &tree)?;
@@ -131,7 +134,8 @@ fn search(alloc: Global, problem: Problem) -> Result<Report, AllocError>
 
 /// The report of a text that is refused.
 fn refused(alloc: Global, error: ReadError) -> Result<Report, AllocError>
-    ensures { IfOk result (λ r. (bytes : List ℕ) → Refuses bytes error → (error ≢ ReadError.OutOfMemory → IsNoProblem bytes) → Answers bytes r) }
+    ensures { IfOk result (λ r. (bytes : List ℕ) → Refuses bytes error
+        → (error ≢ ReadError.OutOfMemory → IsNoProblem bytes) → Answers bytes r) }
 {
     match error {
         ReadError::TooLarge => Ok(Report::TooLarge),
@@ -155,8 +159,10 @@ fn answer(alloc: Global, bytes: &[u8]) -> Result<Report, AllocError>
 
 /// The report of a run.
 fn decide<S: Shelf>(alloc: Global, words: &[String], shelf: &mut S) -> Result<Report, AllocError>
-    ensures fits { IfOk result (Fits (words_of words.now) (S.holds shelf.old (codes "-")) (S.faults shelf.old) (S.faults shelf.new)) }
+    ensures fits { IfOk result (Fits (words_of words.now) (S.holds shelf.old (codes "-"))
+        (S.faults shelf.old) (S.faults shelf.new)) }
     ensures err { OnErr result ((words_of words.now ≡ prove_words) × (S.faults shelf.new ≡ S.faults shelf.old)) }
+    ensures kept { (other : List ℕ) → S.holds shelf.new other ≡ S.holds shelf.old other }
 {
     if !is_prove(words) {
         return Ok(Report::Usage);
@@ -205,9 +211,9 @@ fn end_of(report: &Report) -> Status
 
 /// Prints a report: a proof by two puts, every other text by one.
 fn put_report<K: Sink>(out: &mut K, report: &Report) -> Result<(), SinkFailed>
-    ensures ok { OnOk result (Appends (K.written out.old) (printed report.now) (K.written out.new)) }
+    ensures ok { OnOk result (Appends (K.written out.old) (output_of report.now) (K.written out.new)) }
     ensures no_fault { OnOk result (K.faults out.new ≡ K.faults out.old) }
-    ensures err { OnErr result (AppendsFront (K.written out.old) (printed report.now) (K.written out.new)) }
+    ensures err { OnErr result (AppendsFront (K.written out.old) (output_of report.now) (K.written out.new)) }
     ensures failed { OnErr result (HasRisen (K.faults out.old) (K.faults out.new)) }
 {
     out.put(head(report))?;
@@ -231,15 +237,16 @@ fn tell<K: Sink>(out: &mut K, report: &Report) -> Status
 /// A problem whose tableau does not close is given up, with the open leaf that the walk over its segments finds.
 ///
 /// The problem is read once, and the report written by two puts at most. A read fault is the answer exactly where the
-/// shelf's count of faults rose. After want of memory nothing was written.
+/// shelf's count of faults rose. After want of memory nothing was written. The shelf holds what it held.
 pub fn run_alone<S: Shelf, K: Sink>(
     alloc: Global,
     words: &[String],
     shelf: &mut S,
     out: &mut K,
 ) -> Status
-    ensures { Ran (words_of words.now) (S.holds shelf.old (codes "-")) (S.faults shelf.old) (S.faults shelf.new)
+    ensures ran { Ran (words_of words.now) (S.holds shelf.old (codes "-")) (S.faults shelf.old) (S.faults shelf.new)
         (K.written out.old) (K.written out.new) (K.faults out.old) (K.faults out.new) result }
+    ensures kept { (other : List ℕ) → S.holds shelf.new other ≡ S.holds shelf.old other }
 {
     match decide(alloc, words, shelf) {
         Ok(report) => tell(out, &report),

@@ -6,15 +6,15 @@ ghost use Rattle.goeland_run.specs.Searched.{is_searched, are_searched};
 
 use fol_core::{Formula, Formulas};
 
-/// Whether the formula has no argument, quantifier or equivalence. It goes down the left part in a loop, and into the right part by a
-/// call.
+/// Whether the formula has no argument, quantifier or equivalence. It goes down the left part in a loop, and into the
+/// right part by a call.
 fn is_searched(f: &Formula) -> bool
     ensures { result ≡ is_searched (formula_of f.now) }
 {
     let mut at = f;
     loop {
         match at {
-            Formula::Atom(_, args) => return args.is_empty(),
+            Formula::Atom(_, args) => return args.get().is_empty(),
             Formula::Verum | Formula::Falsum => return true,
             Formula::Iff(_, _) | Formula::All(_) | Formula::Ex(_) => return false,
             Formula::Not(a) => at = a.get(),

@@ -1,3 +1,5 @@
+//! Runs on small problems.
+
 use crate::{Status, run_alone};
 use gl_outside::{Files, MemorySink, SoundShelf};
 use std::alloc::{AllocError, Global};
@@ -44,8 +46,8 @@ fn ends(alloc: Global, text: &[u8], status: Status, bytes: &[u8]) -> Result<bool
 
 #[test]
 fn proves_the_excluded_middle(rt: HostRuntime) -> Result<(), AllocError> {
-    let bytes =
-        b"% SZS status Theorem for -\n% depth 1\n% engine plain\n% SZS output start Proof for -\ngs3 1\nalpha 0\nalpha 2\nclose 3 1\n% SZS output end Proof for -\n";
+    let bytes = b"% SZS status Theorem for -\n% depth 1\n% engine plain\n\
+          % SZS output start Proof for -\ngs3 1\nalpha 0\nalpha 2\nclose 3 1\n% SZS output end Proof for -\n";
     let proved = ends(
         rt.alloc(),
         b"fof(c,conjecture,(p|~p)).\n",
@@ -119,8 +121,8 @@ fn tells_why_a_text_is_refused(rt: HostRuntime) -> Result<(), AllocError> {
 
 #[test]
 fn refutes_falsity(rt: HostRuntime) -> Result<(), AllocError> {
-    let bytes =
-        b"% SZS status Unsatisfiable for -\n% depth 1\n% engine plain\n% SZS output start Proof for -\ngs3 1\nfalse 0\n% SZS output end Proof for -\n";
+    let bytes = b"% SZS status Unsatisfiable for -\n% depth 1\n% engine plain\n\
+          % SZS output start Proof for -\ngs3 1\nfalse 0\n% SZS output end Proof for -\n";
     let refuted = ends(rt.alloc(), b"fof(a,axiom,$false).\n", Status::Proved, bytes)?;
     assert!(rt; refuted);
     Ok(())

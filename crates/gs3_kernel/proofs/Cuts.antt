@@ -1,70 +1,104 @@
 -- The stack of cuts, as the list grows, forks and is cut back.
-use Rattle.std.proofs.Common.{◌≡◌, ℕ, ◌≤◌, List, [], ◌∷◌, ◌++◌, map, length, take, reverse, refl, ap, sym, ◌∙◌, subst, arith, length-append}
-use Rattle.std.proofs.Math.Seq.{take-append_seam}
-use Rattle.std.proofs.lemmas.List.{take-append-le, map-append, take-map, reverse-append, length-map, length-take-le}
+use Rattle.std.proofs.Common.{◌≡◌, ℕ, ◌≤◌, List, [], ◌∷◌, ◌++◌, map, length, take, reverse, refl, ap, sym, ◌∙◌, max, subst, arith, Result, Ok, IfOk, length-append}
+use Rattle.std.proofs.lemmas.List.{take-append-le, take_all, map-append, reverse-append}
 use Rattle.fol_core.specs.Syntax.{PlainFormula}
-use Rattle.fol_core.specs.View.{formula_of, formulas_of}
-use Rattle.fol_core.specs.declared.formula.Formula.{Formula}
-use Rattle.gs3_kernel.specs.Shared.{lists_behind, AreNested, cut_of}
+use Rattle.fol_core.specs.View.{TermFormula, formula_of, formulas_of}
+use Rattle.gs3_rules.specs.Rules.{Rule, Step}
+use Rattle.gs3_rules.specs.Apply.{lists_after, Answers}
+use Rattle.gs3_rules.specs.ParamBound.{list_bound, rule_bound, AreBelow}
+use Rattle.gs3_rules.specs.declared.step.Premises.{Premises}
+use Rattle.gs3_rules.specs.declared.step.ApplyError.{ApplyError}
+use Rattle.gs3_rules.proofs.ParamBounds.{bounded_after}
+use Rattle.gs3_kernel.specs.OpenLists.{lists_behind, AreCuts}
 use Rattle.gs3_kernel.specs.declared.open.Cut.{Cut}
 
-pub behind_grown : (list more : List PlainFormula) (cuts : List (ℕ × List PlainFormula)) → AreNested (length list) cuts
-    → lists_behind (list ++ more) cuts ≡ lists_behind list cuts
-behind_grown list more [] nested = refl
-behind_grown list more (cut ∷ cuts) nested =
-    ap (λ front. (front ++ cut.1) ∷ lists_behind (front ++ cut.1) cuts) (take-append-le cut.0 list more nested.0)
+-- what is appended changes nothing behind the list
+behind_append : (list more : List TermFormula) (cuts : List Cut) → AreCuts list cuts → lists_behind (list ++ more) cuts ≡ lists_behind list cuts
+behind_append list more [] h = refl
+behind_append list more (cut ∷ cuts) h =
+    ap (λ front. (front ++ cut.more) ∷ lists_behind front cuts) (take-append-le cut.keep list more h.0.within)
 
-pub nested_more : (m n : ℕ) (cuts : List (ℕ × List PlainFormula)) → m ≤ n → AreNested m cuts → AreNested n cuts
-nested_more m n [] le nested = tt
-nested_more m n (cut ∷ cuts) le nested = (omega arith, nested.1)
+cuts_append : (list more : List TermFormula) (cuts : List Cut) → AreCuts list cuts → AreCuts (list ++ more) cuts
+cuts_append list more [] h = tt
+cuts_append list more (cut ∷ cuts) h =
+    let front = sym (take-append-le cut.keep list more h.0.within) in (
+      record {
+        within = omega (arith, h.0.within, length-append list more);
+        bounded = subst (λ f. list_bound (formulas_of (f ++ cut.more)) ≤ cut.above) front h.0.bounded;
+      },
+      subst (λ f. AreCuts f cuts) front h.1,
+    )
 
-formulas_cut : (n : ℕ) (fs gs : List Formula) → formulas_of (take n fs ++ gs) ≡ take n (formulas_of fs) ++ formulas_of gs
-formulas_cut n fs gs =
-    map-append formula_of (take n fs) gs ∙ ap (λ front. front ++ formulas_of gs) (sym (take-map formula_of n fs))
+-- The list and the cuts stand for these lists, and are sound.
+pub record Opens (list : List TermFormula) (above : ℕ) (cuts : List Cut) (lists : List (List PlainFormula)) : Type 0 where
+  pub left : formulas_of list ∷ map formulas_of (lists_behind list cuts) ≡ lists
+  pub bounded : list_bound (formulas_of list) ≤ above
+  pub sound : AreCuts list cuts
 
-cuts_pushed : (cuts : List Cut) (cut : Cut) → reverse (map cut_of (cuts ++ cut ∷ [])) ≡ cut_of cut ∷ reverse (map cut_of cuts)
-cuts_pushed cuts cut =
-    ap reverse (map-append cut_of cuts (cut ∷ [])) ∙ reverse-append (map cut_of cuts) (cut_of cut ∷ [])
+pub grown : (list more next : List TermFormula) (above : ℕ) (cuts : List Cut) → next ≡ list ++ more
+    → list_bound (formulas_of list ++ formulas_of more) ≤ above → AreCuts list cuts
+    → Opens next above cuts ((formulas_of list ++ formulas_of more) ∷ map formulas_of (lists_behind list cuts))
+grown list more next above cuts e below h =
+    let is : formulas_of next ≡ formulas_of list ++ formulas_of more = ap formulas_of e ∙ map-append formula_of list more in record {
+      left =
+          ap (λ l. l ∷ map formulas_of (lists_behind next cuts)) is
+          ∙ ap (λ ls. (formulas_of list ++ formulas_of more) ∷ map formulas_of ls) (ap (λ l. lists_behind l cuts) e ∙ behind_append list more cuts h);
+      bounded = subst (λ l. list_bound l ≤ above) (sym is) below;
+      sound = subst (λ l. AreCuts l cuts) (sym e) (cuts_append list more cuts h);
+    }
 
-pub closed_left : (list next : List Formula) (all cuts : List Cut) (cut : Cut) → all ≡ cuts ++ cut ∷ [] → next ≡ take cut.keep list ++ cut.more
-    → formulas_of list ∷ lists_behind (formulas_of list) (reverse (map cut_of all))
-    ≡ formulas_of list ∷ (formulas_of next ∷ lists_behind (formulas_of next) (reverse (map cut_of cuts)))
-closed_left list next all cuts cut ae ne =
-    ap (λ x. formulas_of list ∷ lists_behind (formulas_of list) (reverse (map cut_of x))) ae
-    ∙ ap (λ x. formulas_of list ∷ lists_behind (formulas_of list) x) (cuts_pushed cuts cut)
-    ∙ sym (ap (λ x. formulas_of list ∷ (x ∷ lists_behind x (reverse (map cut_of cuts))))
-    (ap formulas_of ne ∙ formulas_cut cut.keep list cut.more))
+cut_at_end : (list right : List TermFormula) (above : ℕ) (cuts : List Cut) (cut : Cut) → cut.keep ≡ length list → cut.more ≡ right → cut.above ≡ above
+    → list_bound (formulas_of list ++ formulas_of right) ≤ above → AreCuts list cuts → AreCuts list (cut ∷ cuts)
+cut_at_end list right above cuts cut ke re ae below h =
+    let front : list ≡ take cut.keep list = sym (take_all cut.keep list (omega (arith, ke))) in (
+      record {
+        within = omega (arith, ke);
+        bounded =
+            omega (
+              arith,
+              ae,
+              subst (λ l. list_bound l ≤ above) (sym (map-append formula_of list right) ∙ ap formulas_of (ap (λ f. f ++ right) front ∙ ap (λ r. take cut.keep list ++ r) (sym re))) below,
+            );
+      },
+      subst (λ f. AreCuts f cuts) front h,
+    )
 
-pub closed_sound : (list next : List Formula) (all cuts : List Cut) (cut : Cut) → all ≡ cuts ++ cut ∷ [] → next ≡ take cut.keep list ++ cut.more
-    → AreNested (length list) (reverse (map cut_of all)) → AreNested (length next) (reverse (map cut_of cuts))
-closed_sound list next all cuts cut ae ne nested =
-    let shown : AreNested (length list) (cut_of cut ∷ reverse (map cut_of cuts))
-    = subst (λ x. AreNested (length list) x) (ap (λ x. reverse (map cut_of x)) ae ∙ cuts_pushed cuts cut) nested in
-    nested_more cut.keep (length next) _ (omega (arith, ap length ne, length-append (take cut.keep list) cut.more, length-take-le cut.keep list shown.0)) shown.1
+pub forked : (list left right next : List TermFormula) (above : ℕ) (all cuts : List Cut) (cut : Cut) → all ≡ cuts ++ cut ∷ [] → cut.keep ≡ length list → cut.more ≡ right → cut.above ≡ above
+    → next ≡ list ++ left → list_bound (formulas_of list ++ formulas_of left) ≤ above → list_bound (formulas_of list ++ formulas_of right) ≤ above → AreCuts list (reverse cuts)
+    → Opens next above (reverse all) ((formulas_of list ++ formulas_of left) ∷ (formulas_of list ++ formulas_of right) ∷ map formulas_of (lists_behind list (reverse cuts)))
+forked list left right next above all cuts cut e ke re ae ne below_left below_right h =
+    let top : cut ∷ reverse cuts ≡ reverse all = sym (ap reverse e ∙ reverse-append cuts (cut ∷ [])) in
+    let front : take cut.keep list ≡ list = take_all cut.keep list (omega (arith, ke)) in
+    let right_is : formulas_of (take cut.keep list ++ cut.more) ≡ formulas_of list ++ formulas_of right
+    = ap formulas_of (ap (λ f. f ++ cut.more) front ∙ ap (λ r. list ++ r) re) ∙ map-append formula_of list right in
+    let all_open = grown list left next above (cut ∷ reverse cuts) ne below_left (cut_at_end list right above (reverse cuts) cut ke re ae below_right h) in
+    subst (λ cs. Opens next above cs ((formulas_of list ++ formulas_of left) ∷ (formulas_of list ++ formulas_of right) ∷ map formulas_of (lists_behind list (reverse cuts)))) top record {
+      left =
+          all_open.left
+          ∙ ap (λ l. (formulas_of list ++ formulas_of left) ∷ l ∷ map formulas_of (lists_behind (take cut.keep list) (reverse cuts))) right_is
+          ∙ ap (λ f. (formulas_of list ++ formulas_of left) ∷ (formulas_of list ++ formulas_of right) ∷ map formulas_of (lists_behind f (reverse cuts))) front;
+      bounded = all_open.bounded;
+      sound = all_open.sound;
+    }
 
-pub grown_left : (list next more : List Formula) (cuts : List (ℕ × List PlainFormula)) → AreNested (length list) cuts → next ≡ list ++ more
-    → formulas_of next ∷ lists_behind (formulas_of next) cuts ≡ (formulas_of list ++ formulas_of more) ∷ lists_behind (formulas_of list) cuts
-grown_left list next more cuts nested ne =
-    let shown : AreNested (length (formulas_of list)) cuts = subst (λ n. AreNested n cuts) (sym (length-map list formula_of)) nested in
-    ap (λ x. x ∷ lists_behind x cuts) (ap formulas_of ne ∙ map-append formula_of list more)
-    ∙ ap (λ x. (formulas_of list ++ formulas_of more) ∷ x) (behind_grown (formulas_of list) (formulas_of more) cuts shown)
+-- the list is cut back, and the next branch begins
+pub closed : (list next : List TermFormula) (all cuts : List Cut) (cut : Cut) → all ≡ cuts ++ cut ∷ [] → next ≡ take cut.keep list ++ cut.more
+    → AreCuts list (reverse all) → Opens next cut.above (reverse cuts) (map formulas_of (lists_behind list (reverse all)))
+closed list next all cuts cut e ne h =
+    let top : reverse all ≡ cut ∷ reverse cuts = ap reverse e ∙ reverse-append cuts (cut ∷ []) in
+    let here : AreCuts list (cut ∷ reverse cuts) = subst (λ cs. AreCuts list cs) top h in
+    let more = grown (take cut.keep list) cut.more next cut.above (reverse cuts) ne
+    (subst (λ l. list_bound l ≤ cut.above) (map-append formula_of (take cut.keep list) cut.more) here.0.bounded) here.1 in record {
+      left =
+          more.left ∙ ap (λ l. l ∷ map formulas_of (lists_behind (take cut.keep list) (reverse cuts))) (sym (map-append formula_of (take cut.keep list) cut.more))
+          ∙ ap (λ cs. map formulas_of (lists_behind list cs)) (sym top);
+      bounded = more.bounded;
+      sound = more.sound;
+    }
 
-pub grown_sound : (list next more : List Formula) (cuts : List (ℕ × List PlainFormula)) → AreNested (length list) cuts → next ≡ list ++ more
-    → AreNested (length next) cuts
-grown_sound list next more cuts nested ne = nested_more _ _ cuts (omega (arith, ap length ne, length-append list more)) nested
-
-pub forked_left : (list next left right : List Formula) (all cuts : List Cut) (cut : Cut) → AreNested (length list) (reverse (map cut_of cuts))
-    → all ≡ cuts ++ cut ∷ [] → cut.keep ≡ length list → cut.more ≡ right → next ≡ list ++ left
-    → formulas_of next ∷ lists_behind (formulas_of next) (reverse (map cut_of all))
-    ≡ (formulas_of list ++ formulas_of left) ∷ (formulas_of list ++ formulas_of right) ∷ lists_behind (formulas_of list) (reverse (map cut_of cuts))
-forked_left list next left right all cuts cut nested ae ke te ne =
-    let rest : List (ℕ × List PlainFormula) = reverse (map cut_of cuts) in
-    let shown : AreNested (length (formulas_of list)) rest = subst (λ n. AreNested n rest) (sym (length-map list formula_of)) nested in
-    let front : take cut.keep (formulas_of list ++ formulas_of left) ++ formulas_of cut.more ≡ formulas_of list ++ formulas_of right
-    = ap (λ n. take n (formulas_of list ++ formulas_of left) ++ formulas_of cut.more) (ke ∙ sym (length-map list formula_of))
-    ∙ ap (λ x. x ++ formulas_of cut.more) (take-append_seam (formulas_of list) (formulas_of left))
-    ∙ ap (λ x. formulas_of list ++ formulas_of x) te in
-    ap (λ x. formulas_of next ∷ lists_behind (formulas_of next) x) (ap (λ x. reverse (map cut_of x)) ae ∙ cuts_pushed cuts cut)
-    ∙ ap (λ x. x ∷ lists_behind x (cut_of cut ∷ rest)) (ap formulas_of ne ∙ map-append formula_of list left)
-    ∙ ap (λ x. (formulas_of list ++ formulas_of left) ∷ (x ∷ lists_behind x rest)) front
-    ∙ ap (λ x. (formulas_of list ++ formulas_of left) ∷ ((formulas_of list ++ formulas_of right) ∷ x)) (behind_grown (formulas_of list) (formulas_of right) rest shown)
+-- the parameters of each premise's list are below the number that comes after the step
+pub below_after : (list : List TermFormula) (rule : Rule) (r : Result Premises ApplyError) (p : Premises) (above n : ℕ) → r ≡ Ok p → Answers list rule r
+    → above ≡ max n (rule_bound rule) → list_bound (formulas_of list) ≤ n → AreBelow above (lists_after (formulas_of list) p)
+below_after list rule r p above n e answers is h =
+    subst (λ m. AreBelow m (lists_after (formulas_of list) p)) (sym is)
+    (bounded_after (formulas_of list) rule (lists_after (formulas_of list) p) n (subst (λ x. IfOk x (λ q. Step (formulas_of list) rule (lists_after (formulas_of list) q))) e answers.step) h)

@@ -7,7 +7,7 @@ use Rattle.gs3_rules.specs.Refutes.{RefutedBy, preorder}
 use Rattle.gs3_rules.specs.InTurn.{RefuteInTurn, StopAt}
 use Rattle.gs3_rules.proofs.InTurn.{refuted_in_turn, refuted_or_stops, stops_where_fails}
 use Rattle.gs3_kernel.specs.Steps.{DoesStep}
-use Rattle.gs3_kernel.specs.Shared.{left_of, open_lists}
+use Rattle.gs3_kernel.specs.OpenLists.{left_of, open_lists}
 use Rattle.gs3_rules.specs.Apply.{rule_of, rules_of}
 use Rattle.gs3_rules.specs.declared.step.Step.{Step as CodeStep}
 use Rattle.gs3_kernel.specs.Check.{Checks}

@@ -13,4 +13,5 @@ pub record Checks (list : List PlainFormula) (rules : List Rule) (result : Resul
   pub refuted : OnOk result (RefutedBy list rules)
   pub not_refuted : (n : ℕ) → result ≡ Err (Wrong n) → RefutedBy list rules → ⊥
   pub stops : (n : ℕ) → result ≡ Err (Wrong n) → StopAt (list ∷ []) rules n
-  pub fails : (tree : ProofTree) → HasShape tree → preorder tree ≡ rules → (n : ℕ) → result ≡ Err (Wrong n) → FailsAt list tree n
+  pub fails : (tree : ProofTree) → HasShape tree → preorder tree ≡ rules
+      → (n : ℕ) → result ≡ Err (Wrong n) → FailsAt list tree n

@@ -1,3 +1,3 @@
-pub mod Shared
+pub mod OpenLists
 pub mod Steps
 pub mod Check

@@ -1,3 +1,5 @@
+//! Checking a proof step by step.
+
 ghost use Rattle.fol_core.specs.View.{formulas_of};
 ghost use Rattle.fof_parse.specs.Problem.{Start};
 ghost use Rattle.fof_parse.specs.ProblemView.{plain_problem};
@@ -35,9 +37,10 @@ impl From<AllocError> for CheckError {
 
 /// Whether the steps, read in preorder, are a proof that refutes the list.
 ///
-/// Where they are no proof, the place is that of the first step whose condition fails on its list; of the first step after
-/// the end, where a proof is over before them; or the number of the steps, where they end before a proof is whole. The
-/// branches of the proof share one list, and nothing recurses on the proof's depth.
+/// Where they are no proof, the place is that of the first step whose condition fails on its list; of the first step
+/// after the end, where a proof is over before them; or the number of the steps, where they end before a proof is
+/// whole. The branches of the proof share one list, no formula is copied whole, and nothing recurses on the proof's
+/// depth.
 pub fn check_steps(alloc: Global, start: Formulas, steps: &Steps) -> Result<(), CheckError>
     ensures { Checks (formulas_of start) (rules_of steps.now) result }
 {

@@ -1,20 +1,23 @@
+//! Proofs by modus ponens, right and wrong.
+
 use crate::{CheckError, check_steps};
-use containers::{Boxed, Items};
+use containers::{Items, Shared};
 use fol_core::{Formula, Formulas};
 use gs3_rules::{Step, Steps};
 use std::alloc::{AllocError, Global};
 
-fn atom(alloc: Global, symbol: u32) -> Formula {
-    Formula::Atom(symbol, Items::new(alloc))
+fn atom(alloc: Global, symbol: u32) -> Result<Formula, AllocError> {
+    let none = Shared::new(alloc, Items::new(alloc))?;
+    Ok(Formula::Atom(symbol, none))
 }
 
 /// `p`, `p => q` and `~q`.
 fn start(alloc: Global) -> Result<Formulas, AllocError> {
-    let left = Boxed::new(alloc, atom(alloc, 0))?;
-    let right = Boxed::new(alloc, atom(alloc, 1))?;
-    let last = Boxed::new(alloc, atom(alloc, 1))?;
+    let left = Shared::new(alloc, atom(alloc, 0)?)?;
+    let right = Shared::new(alloc, atom(alloc, 1)?)?;
+    let last = Shared::new(alloc, atom(alloc, 1)?)?;
     let mut list = Items::new(alloc);
-    list.push(atom(alloc, 0))?;
+    list.push(atom(alloc, 0)?)?;
     list.push(Formula::Imp(left, right))?;
     list.push(Formula::Not(last))?;
     Ok(list)

@@ -1,6 +1,5 @@
 -- A proof read step by step is the proof of a tree, and where its steps stop a step of the tree fails.
-use Rattle.std.proofs.Common.{◌≡◌, ◌↔◌, ◌⊎◌, inl, inr, ◌+◌, ℕ, List, [], ◌∷◌, ◌++◌, map, length, Option, Some, refl, ap, sym, ◌∙◌, append_assoc, append-nil, subst, arith, length-append}
-use Rattle.std.proofs.lemmas.List.{length-map}
+use Rattle.std.proofs.Common.{◌≡◌, ◌↔◌, ◌⊎◌, inl, inr, ◌+◌, ℕ, List, [], ◌∷◌, ◌++◌, length, Option, Some, refl, ap, sym, ◌∙◌, append_assoc, append-nil, subst, arith, length-append}
 use Rattle.fol_core.specs.Syntax.{PlainFormula}
 use Rattle.gs3_rules.specs.Rules.{Rule, close, false_at, not_true, alpha, beta, delta, gamma, Step}
 use Rattle.gs3_rules.specs.Refutes.{ProofTree, by, Premises, no_premises, premise, Refutes, AllRefute, preorder, preorder_each, RefutedBy, premises_of, number_of, HasShape, HaveShape, FailsAt, SomeFailsAt}
@@ -30,8 +29,8 @@ trees_of_turns [] [] h = (no_premises, refl, tt)
 trees_of_turns [] (list ∷ lists) h = absurd h
 trees_of_turns (rule ∷ rules) [] h = absurd h
 trees_of_turns (rule ∷ rules) (list ∷ lists) h =
-    let later = trees_of_turns rules (map (λ a. list ++ a) h.0 ++ lists) h.2 in
-    let parts = split (map (λ a. list ++ a) h.0) lists later.0 later.2 in (
+    let later = trees_of_turns rules (h.0 ++ lists) h.2 in
+    let parts = split h.0 lists later.0 later.2 in (
       premise (by rule parts.0) parts.1,
       ap (λ x. rule ∷ x) (sym (preorder_joined parts.0 parts.1) ∙ ap preorder_each (sym parts.2) ∙ later.1),
       ((h.0, h.1, parts.3), parts.4),
@@ -41,7 +40,7 @@ mutual
   turns_of_tree : (t : ProofTree) (list : List PlainFormula) (lists : List (List PlainFormula)) (rules : List Rule)
       → Refutes list t → RefuteInTurn lists rules → RefuteInTurn (list ∷ lists) (preorder t ++ rules)
   turns_of_tree (by rule ts) list lists rules h later =
-      (h.0, h.1, turns_of_trees ts (map (λ a. list ++ a) h.0) lists rules h.2 later)
+      (h.0, h.1, turns_of_trees ts h.0 lists rules h.2 later)
 
   turns_of_trees : (ts : Premises) (first lists : List (List PlainFormula)) (rules : List Rule)
       → AllRefute first ts → RefuteInTurn lists rules → RefuteInTurn (first ++ lists) (preorder_each ts ++ rules)
@@ -68,16 +67,16 @@ refuted_in_turn list rules = (
 some_once : {A : Type 0} (o : Option A) (x y : A) → o ≡ Some x → o ≡ Some y → x ≡ y
 some_once o x y ex ey = cc
 
--- a step appends one thing
+-- a step has one list of premises
 pub step_once : (list : List PlainFormula) (rule : Rule) (a b : List (List PlainFormula)) → Step list rule a → Step list rule b → a ≡ b
 step_once list (close i j) a b x y = x.1 ∙ sym y.1
 step_once list (false_at i) a b x y = x.1 ∙ sym y.1
 step_once list (not_true i) a b x y = x.1 ∙ sym y.1
-step_once list (alpha i) a b x y = x.2 ∙ ap (λ p. p ∷ []) (some_once _ _ _ x.1 y.1) ∙ sym y.2
+step_once list (alpha i) a b x y = x.2 ∙ ap (λ p. (list ++ p) ∷ []) (some_once _ _ _ x.1 y.1) ∙ sym y.2
 step_once list (beta i) a b x y =
-    x.3 ∙ ap (λ p. p.0 ∷ p.1 ∷ []) (some_once _ (x.0, x.1) (y.0, y.1) x.2 y.2) ∙ sym y.3
-step_once list (delta i n) a b x y = x.3 ∙ ap (λ p. (p ∷ []) ∷ []) (some_once _ _ _ x.1 y.1) ∙ sym y.3
-step_once list (gamma i t) a b x y = x.3 ∙ ap (λ p. (p ∷ []) ∷ []) (some_once _ _ _ x.1 y.1) ∙ sym y.3
+    x.3 ∙ ap (λ p. (list ++ p.0) ∷ (list ++ p.1) ∷ []) (some_once _ (x.0, x.1) (y.0, y.1) x.2 y.2) ∙ sym y.3
+step_once list (delta i n) a b x y = x.3 ∙ ap (λ p. (list ++ p ∷ []) ∷ []) (some_once _ _ _ x.1 y.1) ∙ sym y.3
+step_once list (gamma i t) a b x y = x.3 ∙ ap (λ p. (list ++ p ∷ []) ∷ []) (some_once _ _ _ x.1 y.1) ∙ sym y.3
 
 pub step_premises : (list : List PlainFormula) (rule : Rule) (a : List (List PlainFormula)) → Step list rule a → length a ≡ premises_of rule
 step_premises list (close i j) a x = ap length x.1
@@ -95,7 +94,7 @@ refuted_or_stops [] (rule ∷ rules) n h s = h
 refuted_or_stops (list ∷ lists) [] n h s = h
 refuted_or_stops (list ∷ lists) (rule ∷ rules) n h (inl s) = s.1 h.0 h.1
 refuted_or_stops (list ∷ lists) (rule ∷ rules) n h (inr s) =
-    refuted_or_stops (map (λ a. list ++ a) s.0 ++ lists) rules s.2 (subst (λ a. RefuteInTurn (map (λ m. list ++ m) a ++ lists) rules) (step_once list rule h.0 s.0 h.1 s.1) h.2) s.4
+    refuted_or_stops (s.0 ++ lists) rules s.2 (subst (λ a. RefuteInTurn (a ++ lists) rules) (step_once list rule h.0 s.0 h.1 s.1) h.2) s.4
 
 mutual
   stops_in_tree : (t : ProofTree) (list : List PlainFormula) (lists : List (List PlainFormula)) (rules : List Rule) (n : ℕ)
@@ -103,7 +102,7 @@ mutual
       → FailsAt list t n ⊎ (Refutes list t × (m : ℕ) × (n ≡ length (preorder t) + m) × StopAt lists rules m)
   stops_in_tree (by rule ts) list lists rules n shape (inl s) = inl (inl s)
   stops_in_tree (by rule ts) list lists rules n shape (inr s) =
-      elim (stops_in_trees ts (map (λ a. list ++ a) s.0) lists rules s.2 (shape.0 ∙ sym (step_premises list rule s.0 s.1) ∙ sym (length-map s.0 (λ a. list ++ a))) shape.1 s.4) [
+      elim (stops_in_trees ts s.0 lists rules s.2 (shape.0 ∙ sym (step_premises list rule s.0 s.1)) shape.1 s.4) [
         | inl f ↦ inl (inr (s.0, s.1, s.2, s.3, f))
         | inr g ↦ inr ((s.0, s.1, g.0), g.1, omega (arith, s.3, g.2), g.3)
       ]

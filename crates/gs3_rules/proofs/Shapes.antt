@@ -1,6 +1,5 @@
 -- A tree that refutes a list has the shape of a proof.
-use Rattle.std.proofs.Common.{◌≡◌, suc, List, [], ◌∷◌, ◌++◌, map, length, ap, refl, ◌∙◌}
-use Rattle.std.proofs.lemmas.List.{length-map}
+use Rattle.std.proofs.Common.{◌≡◌, suc, List, [], ◌∷◌, length, ap, refl, ◌∙◌}
 use Rattle.fol_core.specs.Syntax.{PlainFormula}
 use Rattle.gs3_rules.specs.Rules.{Rule}
 use Rattle.gs3_rules.specs.Refutes.{ProofTree, by, Premises, no_premises, premise, Refutes, AllRefute, RefutedBy, number_of, HasShape, HaveShape, IsWhole}
@@ -14,9 +13,9 @@ number_refuted (l ∷ ls) (premise t us) h = ap suc (number_refuted ls us h.1)
 
 mutual
   pub refutation_shape : (list : List PlainFormula) (t : ProofTree) → Refutes list t → HasShape t
-  refutation_shape list (by rule us) (appended, step, below) = (
-    number_refuted (map (λ a. list ++ a) appended) us below ∙ length-map appended (λ a. list ++ a) ∙ step_premises list rule appended step,
-    refutations_shape (map (λ a. list ++ a) appended) us below,
+  refutation_shape list (by rule us) (lists, step, below) = (
+    number_refuted lists us below ∙ step_premises list rule lists step,
+    refutations_shape lists us below,
   )
 
   refutations_shape : (lists : List (List PlainFormula)) (us : Premises) → AllRefute lists us → HaveShape us

@@ -1,5 +1,5 @@
 -- A proof read step by step: what a list of steps does to the lists that are still to be refuted.
-use Rattle.std.specs.Prelude.{◌≡◌, ◌⊎◌, ℕ, suc, List, [], ◌∷◌, ◌++◌, map}
+use Rattle.std.specs.Prelude.{◌≡◌, ◌⊎◌, ℕ, suc, List, [], ◌∷◌, ◌++◌}
 use Rattle.fol_core.specs.Syntax.{PlainFormula}
 use Rattle.gs3_rules.specs.Rules.{Rule, Step}
 use Rattle.gs3_rules.specs.Refutes.{IsNoStep}
@@ -11,7 +11,7 @@ RefuteInTurn [] [] = Unit {0}
 RefuteInTurn [] (rule ∷ rules) = ⊥
 RefuteInTurn (list ∷ lists) [] = ⊥
 RefuteInTurn (list ∷ lists) (rule ∷ rules) =
-    (appended : List (List PlainFormula)) × Step list rule appended × RefuteInTurn (map (λ a. list ++ a) appended ++ lists) rules
+    (premises : List (List PlainFormula)) × Step list rule premises × RefuteInTurn (premises ++ lists) rules
 
 -- The steps stop at the place n, from 0: those before it are steps in turn, and there stands a step whose condition
 -- fails on its list, or one step too many, or none although a list is left.
@@ -20,5 +20,5 @@ StopAt [] [] n = ⊥
 StopAt [] (rule ∷ rules) n = n ≡ 0
 StopAt (list ∷ lists) [] n = n ≡ 0
 StopAt (list ∷ lists) (rule ∷ rules) n = ((n ≡ 0) × IsNoStep list rule)
-    ⊎ ((appended : List (List PlainFormula)) × Step list rule appended
-    × (m : ℕ) × (n ≡ suc m) × StopAt (map (λ a. list ++ a) appended ++ lists) rules m)
+    ⊎ ((premises : List (List PlainFormula)) × Step list rule premises
+    × (m : ℕ) × (n ≡ suc m) × StopAt (premises ++ lists) rules m)

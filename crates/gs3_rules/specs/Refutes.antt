@@ -1,5 +1,5 @@
 -- A GS3 proof as a tree of steps, and what it refutes.
-use Rattle.std.specs.Prelude.{◌≡◌, ◌⊎◌, ℕ, suc, ◌+◌, List, [], ◌∷◌, ◌++◌, map, length}
+use Rattle.std.specs.Prelude.{◌≡◌, ◌⊎◌, ℕ, suc, ◌+◌, List, [], ◌∷◌, ◌++◌, length}
 use Rattle.fol_core.specs.Syntax.{PlainFormula}
 use Rattle.gs3_rules.specs.Rules.{Rule, close, false_at, not_true, alpha, beta, delta, gamma, Step}
 
@@ -11,12 +11,11 @@ mutual
     no_premises : Premises
     premise : ProofTree → Premises → Premises
 
--- The first step is a step on the list, and for each of its premises the subtree refutes the list
--- followed by what that premise appends.
+-- The first step is a step on the list, and for each of its premises the subtree refutes the premise's list.
 abbrev mutual
   pub Refutes : List PlainFormula → ProofTree → Type 0
   Refutes list (by rule subtrees) =
-      (appended : List (List PlainFormula)) × Step list rule appended × AllRefute (map (λ a. list ++ a) appended) subtrees
+      (lists : List (List PlainFormula)) × Step list rule lists × AllRefute lists subtrees
 
   -- each subtree refutes the list in its place
   pub AllRefute : List (List PlainFormula) → Premises → Type 0
@@ -66,14 +65,14 @@ abbrev pub IsWhole : List Rule → Type 0
 IsWhole rules = (tree : ProofTree) × HasShape tree × (preorder tree ≡ rules)
 
 abbrev pub IsNoStep : List PlainFormula → Rule → Type 0
-IsNoStep list rule = (appended : List (List PlainFormula)) → Step list rule appended → ⊥
+IsNoStep list rule = (lists : List (List PlainFormula)) → Step list rule lists → ⊥
 
 -- The step n of the tree in preorder, from 0, is the first one whose condition fails on its list.
 abbrev mutual
   pub FailsAt : List PlainFormula → ProofTree → ℕ → Type 0
   FailsAt list (by rule subtrees) n = ((n ≡ 0) × IsNoStep list rule)
-      ⊎ ((appended : List (List PlainFormula)) × Step list rule appended
-      × (m : ℕ) × (n ≡ suc m) × SomeFailsAt (map (λ a. list ++ a) appended) subtrees m)
+      ⊎ ((lists : List (List PlainFormula)) × Step list rule lists
+      × (m : ℕ) × (n ≡ suc m) × SomeFailsAt lists subtrees m)
 
   -- the same among the steps of the subtrees, each on the list in its place
   pub SomeFailsAt : List (List PlainFormula) → Premises → ℕ → Type 0

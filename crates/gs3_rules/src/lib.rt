@@ -4,7 +4,7 @@
 mod parts;
 mod step;
 
-pub use step::{ApplyError, Premises, Step, Steps, apply};
+pub use step::{ApplyError, Premises, Step, Steps, apply, apply_below, bound_after, list_bound};
 
 #[cfg(test)]
 mod tests;

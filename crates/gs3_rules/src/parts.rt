@@ -6,23 +6,22 @@ ghost use Rattle.fol_core.specs.Syntax.{not, instance, IsClosedTerm};
 ghost use Rattle.gs3_rules.specs.Rules.{alpha_parts, beta_parts, delta_part, gamma_part, AreOpposite};
 ghost use Rattle.gs3_rules.specs.Apply.{sides_of};
 
-use containers::{Boxed, Items};
+use containers::{Items, Shared};
 use fol_core::{Formula, Formulas, Term, instantiate, same_terms};
 use std::alloc::{AllocError, Global};
 
-/// A copy of a formula.
-fn plain(alloc: Global, f: &Boxed<Formula>) -> Result<Formula, AllocError>
+/// A copy of a formula, which shares its parts.
+fn plain(f: &Shared<Formula>) -> Result<Formula, AllocError>
     ensures { IfOk result (λ g. formula_of g ≡ formula_of f.now) }
 {
-    f.get().copy(alloc)
+    f.get().copy()
 }
 
 /// The negation of a formula.
-fn negated(alloc: Global, f: &Boxed<Formula>) -> Result<Formula, AllocError>
+fn negated(f: &Shared<Formula>) -> Result<Formula, AllocError>
     ensures { IfOk result (λ g. formula_of g ≡ not (formula_of f.now)) }
 {
-    let copy = f.get().copy(alloc)?;
-    Ok(Formula::Not(Boxed::new(alloc, copy)?))
+    Ok(Formula::Not(f.copy()?))
 }
 
 fn one(alloc: Global, f: Formula) -> Result<Formulas, AllocError>
@@ -46,9 +45,9 @@ fn alpha_of_not(alloc: Global, f: &Formula) -> Result<Option<Formulas>, AllocErr
     ensures { IfOk result (λ parts. option_map formulas_of parts ≡ alpha_parts (not (formula_of f.now))) }
 {
     match f {
-        Formula::Not(a) => Ok(Some(one(alloc, plain(alloc, a)?)?)),
-        Formula::Or(a, b) => Ok(Some(two(alloc, negated(alloc, a)?, negated(alloc, b)?)?)),
-        Formula::Imp(a, b) => Ok(Some(two(alloc, plain(alloc, a)?, negated(alloc, b)?)?)),
+        Formula::Not(a) => Ok(Some(one(alloc, plain(a)?)?)),
+        Formula::Or(a, b) => Ok(Some(two(alloc, negated(a)?, negated(b)?)?)),
+        Formula::Imp(a, b) => Ok(Some(two(alloc, plain(a)?, negated(b)?)?)),
         Formula::Atom(..) | Formula::Verum | Formula::Falsum => Ok(None),
         Formula::And(..) | Formula::Iff(..) | Formula::All(_) | Formula::Ex(_) => Ok(None),
     }
@@ -58,7 +57,7 @@ pub(crate) fn alpha(alloc: Global, f: &Formula) -> Result<Option<Formulas>, Allo
     ensures { IfOk result (λ parts. option_map formulas_of parts ≡ alpha_parts (formula_of f.now)) }
 {
     match f {
-        Formula::And(a, b) => Ok(Some(two(alloc, plain(alloc, a)?, plain(alloc, b)?)?)),
+        Formula::And(a, b) => Ok(Some(two(alloc, plain(a)?, plain(b)?)?)),
         Formula::Not(a) => alpha_of_not(alloc, a.get()),
         Formula::Atom(..) | Formula::Verum | Formula::Falsum | Formula::Or(..) => Ok(None),
         Formula::Imp(..) | Formula::Iff(..) | Formula::All(_) | Formula::Ex(_) => Ok(None),
@@ -75,15 +74,10 @@ fn beta_of_not(alloc: Global, f: &Formula) -> Result<Option<(Formulas, Formulas)
     ensures { IfOk result (λ parts. sides_of parts ≡ beta_parts (not (formula_of f.now))) }
 {
     match f {
-        Formula::And(a, b) => {
-            pair(
-                one(alloc, negated(alloc, a)?)?,
-                one(alloc, negated(alloc, b)?)?,
-            )
-        }
+        Formula::And(a, b) => { pair(one(alloc, negated(a)?)?, one(alloc, negated(b)?)?) }
         Formula::Iff(a, b) => {
-            let left = two(alloc, plain(alloc, a)?, negated(alloc, b)?)?;
-            let right = two(alloc, negated(alloc, a)?, plain(alloc, b)?)?;
+            let left = two(alloc, plain(a)?, negated(b)?)?;
+            let right = two(alloc, negated(a)?, plain(b)?)?;
             pair(left, right)
         }
         Formula::Atom(..) | Formula::Verum | Formula::Falsum | Formula::Not(_) => Ok(None),
@@ -95,16 +89,11 @@ pub(crate) fn beta(alloc: Global, f: &Formula) -> Result<Option<(Formulas, Formu
     ensures { IfOk result (λ parts. sides_of parts ≡ beta_parts (formula_of f.now)) }
 {
     match f {
-        Formula::Or(a, b) => pair(one(alloc, plain(alloc, a)?)?, one(alloc, plain(alloc, b)?)?),
-        Formula::Imp(a, b) => {
-            pair(
-                one(alloc, negated(alloc, a)?)?,
-                one(alloc, plain(alloc, b)?)?,
-            )
-        }
+        Formula::Or(a, b) => pair(one(alloc, plain(a)?)?, one(alloc, plain(b)?)?),
+        Formula::Imp(a, b) => { pair(one(alloc, negated(a)?)?, one(alloc, plain(b)?)?) }
         Formula::Iff(a, b) => {
-            let left = two(alloc, plain(alloc, a)?, plain(alloc, b)?)?;
-            let right = two(alloc, negated(alloc, a)?, negated(alloc, b)?)?;
+            let left = two(alloc, plain(a)?, plain(b)?)?;
+            let right = two(alloc, negated(a)?, negated(b)?)?;
             pair(left, right)
         }
         Formula::Not(a) => beta_of_not(alloc, a.get()),
@@ -114,17 +103,18 @@ pub(crate) fn beta(alloc: Global, f: &Formula) -> Result<Option<(Formulas, Formu
 }
 
 /// The negation of the instance of a body.
-fn negated_instance(alloc: Global, body: &Boxed<Formula>, by: &Term) -> Result<Formula, AllocError>
+fn negated_instance(alloc: Global, body: &Shared<Formula>, by: &Term) -> Result<Formula, AllocError>
     requires { IsClosedTerm (term_of by.now) }
     ensures { IfOk result (λ f. formula_of f ≡ not (instance (formula_of body.now) (term_of by.now))) }
 {
     let instance = instantiate(alloc, body.get(), by)?;
-    Ok(Formula::Not(Boxed::new(alloc, instance)?))
+    Ok(Formula::Not(Shared::new(alloc, instance)?))
 }
 
 pub(crate) fn delta(alloc: Global, f: &Formula, by: &Term) -> Result<Option<Formula>, AllocError>
     requires { IsClosedTerm (term_of by.now) }
-    ensures { IfOk result (λ part. option_map formula_of part ≡ delta_part (λ a. instance a (term_of by.now)) (formula_of f.now)) }
+    ensures { IfOk result (λ part. option_map formula_of part
+        ≡ delta_part (λ a. instance a (term_of by.now)) (formula_of f.now)) }
 {
     match f {
         Formula::Ex(a) => Ok(Some(instantiate(alloc, a.get(), by)?)),
@@ -141,7 +131,8 @@ pub(crate) fn delta(alloc: Global, f: &Formula, by: &Term) -> Result<Option<Form
 
 pub(crate) fn gamma(alloc: Global, f: &Formula, by: &Term) -> Result<Option<Formula>, AllocError>
     requires { IsClosedTerm (term_of by.now) }
-    ensures { IfOk result (λ part. option_map formula_of part ≡ gamma_part (λ a. instance a (term_of by.now)) (formula_of f.now)) }
+    ensures { IfOk result (λ part. option_map formula_of part
+        ≡ gamma_part (λ a. instance a (term_of by.now)) (formula_of f.now)) }
 {
     match f {
         Formula::All(a) => Ok(Some(instantiate(alloc, a.get(), by)?)),

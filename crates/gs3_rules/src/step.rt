@@ -1,18 +1,23 @@
-ghost use Rattle.std.specs.Prelude.{◌≡◌, ◌↔◌, [], ◌∷◌, slice_get, option_map, IsTrue, IfOk};
+//! A step of a proof, and what it does to the list of a branch.
+
+ghost use Rattle.std.specs.Prelude.{◌≡◌, ◌↔◌, ◌≤◌, [], ◌∷◌, max, slice_get, option_map, IsTrue, IfOk};
 ghost use Rattle.std.specs.Option.{option_copied};
 ghost use Rattle.fol_core.specs.View.{term_of, formula_of, formulas_of};
 ghost use Rattle.fol_core.specs.Syntax.{IsClosedTerm, param_in};
 ghost use Rattle.gs3_rules.specs.Rules as rules;
-ghost use Rattle.gs3_rules.specs.Apply.{rule_of, appended, Answers};
+ghost use Rattle.gs3_rules.specs.Apply.{rule_of, Answers};
+ghost use Rattle.gs3_rules.specs.ParamBound.{list_bound, rule_bound};
 
 use crate::parts;
 use containers::Items;
-use fol_core::{Formula, Formulas, Term, is_closed_term, occurs_param};
+use fol_core::{
+    Formula, Formulas, Term, is_closed_term, occurs_param, param_bound, param_bound_in_term,
+};
 use std::alloc::{AllocError, Global};
 use thiserror::Error;
 
-/// A step of a GS3 proof, which works on a growing list of closed formulas and keeps all of them. It names its principal
-/// formula by its place in the list, from 0.
+/// A step of a GS3 proof, which works on a growing list of closed formulas and keeps all of them. It names its
+/// principal formula by its place in the list, from 0.
 #[derive(Drop)]
 pub enum Step {
     /// An atom and its negation close the branch.
@@ -25,7 +30,8 @@ pub enum Step {
     Alpha { place: u32 },
     /// A disjunctive formula gives two branches: `A | B`, `~(A & B)`, `A => B`, `A <=> B` or `~(A <=> B)`.
     Beta { place: u32 },
-    /// `? X : A` or `~ ! X : A` gives its instance, or the negation of it, at a parameter that stands nowhere in the list.
+    /// `? X : A` or `~ ! X : A` gives its instance, or the negation of it, at a parameter that stands nowhere in the
+    /// list.
     Delta { place: u32, param: u64 },
     /// `! X : A` or `~ ? X : A` gives its instance, or the negation of it, at a closed term.
     Gamma { place: u32, term: Term },
@@ -142,20 +148,27 @@ fn not_true(list: &Formulas, i: u32) -> Result<Premises, ApplyError>
 }
 
 fn one(alloc: Global, part: Formula) -> Result<Premises, AllocError>
-    ensures { IfOk result (λ p. appended p ≡ (formula_of part ∷ []) ∷ []) }
+    ensures { IfOk result (λ p. p ≡ Premises.One (part ∷ [])) }
 {
     let mut list = Items::new(alloc);
     list.push(part)?;
     Ok(Premises::One(list))
 }
 
-fn delta(alloc: Global, list: &Formulas, i: u32, param: u64) -> Result<Premises, ApplyError>
+fn delta(
+    alloc: Global,
+    list: &Formulas,
+    i: u32,
+    param: u64,
+    fresh: bool,
+) -> Result<Premises, ApplyError>
+    requires { IsTrue fresh ↔ rules.IsFresh param (formulas_of list.now) }
     ensures { Answers list.now (rules.delta i param) result }
 {
     let Some(f) = at(list, i) else {
         return Err(ApplyError::Wrong);
     };
-    if !is_fresh(list, param) {
+    if !fresh {
         return Err(ApplyError::Wrong);
     }
     match parts::delta(alloc, f, &Term::Param(param))? {
@@ -179,8 +192,32 @@ fn gamma(alloc: Global, list: &Formulas, i: u32, term: &Term) -> Result<Premises
     }
 }
 
-/// What each premise of the step appends to the list. Wrong comes exactly where the step's condition fails on the list: a
-/// place that the list does not have, a formula of another form, a parameter that is not fresh or a term that is not closed.
+/// The least number above every parameter in the list. It takes no memory.
+pub fn list_bound(list: &Formulas) -> u128
+    ensures { result ≡ list_bound (formulas_of list.now) }
+{
+    let mut most = 0;
+    for f in list.as_slice() {
+        most = most.max(param_bound(f));
+    }
+    most
+}
+
+/// The least number above `above` and every parameter that the step names. It takes no memory.
+pub fn bound_after(step: &Step, above: u128) -> u128
+    ensures { result ≡ max above (rule_bound (rule_of step.now)) }
+{
+    match step {
+        Step::Delta { place: _, param } => above.max(*param as u128 + 1),
+        Step::Gamma { place: _, term } => above.max(param_bound_in_term(term)),
+        Step::Close { .. } | Step::FalseAt { .. } | Step::NotTrue { .. } => above,
+        Step::Alpha { .. } | Step::Beta { .. } => above,
+    }
+}
+
+/// What each premise of the step appends to the list. Wrong comes exactly where the step's condition fails on the list:
+/// a place that the list does not have, a formula of another form, a parameter that is not fresh or a term that is not
+/// closed.
 pub fn apply(alloc: Global, list: &Formulas, step: &Step) -> Result<Premises, ApplyError>
     ensures { Answers list.now (rule_of step.now) result }
 {
@@ -190,7 +227,27 @@ pub fn apply(alloc: Global, list: &Formulas, step: &Step) -> Result<Premises, Ap
         Step::NotTrue { place } => not_true(list, *place),
         Step::Alpha { place } => alpha(alloc, list, *place),
         Step::Beta { place } => beta(alloc, list, *place),
-        Step::Delta { place, param } => delta(alloc, list, *place, *param),
+        Step::Delta { place, param } => delta(alloc, list, *place, *param, is_fresh(list, *param)),
         Step::Gamma { place, term } => gamma(alloc, list, *place, term),
     }
+}
+
+/// The same of a list whose parameters are all below `above`. A parameter from there on is seen to be fresh at once,
+/// and any other one is looked for in the whole list.
+#[tactic(auto, using(crate::proofs::ParamBounds::fresh_above))]
+pub fn apply_below(
+    alloc: Global,
+    list: &Formulas,
+    above: u128,
+    step: &Step,
+) -> Result<Premises, ApplyError>
+    requires { list_bound (formulas_of list.now) ≤ above }
+    ensures { Answers list.now (rule_of step.now) result }
+{
+    if let Step::Delta { place, param } = step {
+        if above <= *param as u128 {
+            return delta(alloc, list, *place, *param, true);
+        }
+    }
+    apply(alloc, list, step)
 }

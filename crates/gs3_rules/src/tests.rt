@@ -1,23 +1,26 @@
+//! Steps on a small list.
+
 use crate::{ApplyError, Premises, Step, apply};
-use containers::{Boxed, Items};
+use containers::{Items, Shared};
 use fol_core::{Formula, Formulas, Term, same};
 use std::alloc::{AllocError, Global};
 
-fn atom(alloc: Global, symbol: u32) -> Formula {
-    Formula::Atom(symbol, Items::new(alloc))
+fn atom(alloc: Global, symbol: u32) -> Result<Formula, AllocError> {
+    let none = Shared::new(alloc, Items::new(alloc))?;
+    Ok(Formula::Atom(symbol, none))
 }
 
 fn negated(alloc: Global, formula: Formula) -> Result<Formula, AllocError> {
-    Ok(Formula::Not(Boxed::new(alloc, formula)?))
+    Ok(Formula::Not(Shared::new(alloc, formula)?))
 }
 
 /// `p`, `p => q` and `~q`.
 fn start(alloc: Global) -> Result<Formulas, AllocError> {
-    let left = Boxed::new(alloc, atom(alloc, 0))?;
-    let right = Boxed::new(alloc, atom(alloc, 1))?;
-    let last = negated(alloc, atom(alloc, 1))?;
+    let left = Shared::new(alloc, atom(alloc, 0)?)?;
+    let right = Shared::new(alloc, atom(alloc, 1)?)?;
+    let last = negated(alloc, atom(alloc, 1)?)?;
     let mut list = Items::new(alloc);
-    list.push(atom(alloc, 0))?;
+    list.push(atom(alloc, 0)?)?;
     list.push(Formula::Imp(left, right))?;
     list.push(last)?;
     Ok(list)
@@ -42,8 +45,8 @@ fn splits_into(premises: &Premises, left: &Formula, right: &Formula) -> bool {
 fn splits_an_implication(rt: HostRuntime) -> Result<(), ApplyError> {
     let alloc = rt.alloc();
     let list = start(alloc)?;
-    let not_p = negated(alloc, atom(alloc, 0))?;
-    let q = atom(alloc, 1);
+    let not_p = negated(alloc, atom(alloc, 0)?)?;
+    let q = atom(alloc, 1)?;
     let premises = apply(alloc, &list, &Step::Beta { place: 1 })?;
     assert!(rt; splits_into(&premises, &not_p, &q));
     Ok(())

@@ -1,5 +1,5 @@
 -- The step that fails is one of the proof's steps, and so has a line.
-use Rattle.std.proofs.Common.{◌≡◌, ℕ, suc, ◌<◌, Bool, true, false, inl, inr, List, [], ◌∷◌, ◌++◌, map, drop, length, get_or, slice_get, Some, if◌then◌else◌, refl, ap, sym, subst, ◌∙◌, arith, length-append}
+use Rattle.std.proofs.Common.{◌≡◌, ℕ, suc, ◌<◌, Bool, true, false, inl, inr, List, [], ◌∷◌, map, drop, length, get_or, slice_get, Some, if◌then◌else◌, refl, ap, sym, subst, ◌∙◌, arith, length-append}
 use Rattle.std.specs.List.{filter}
 use Rattle.std.proofs.lemmas.List.{length-map}
 use Rattle.std.proofs.lemmas.Option.{slice_get-get_or}
@@ -16,7 +16,7 @@ use Rattle.gs3_run.specs.Run.{IsValid, IsWrongAt}
 mutual
   pub fails_within : (list : List PlainFormula) (t : ProofTree) (n : ℕ) → FailsAt list t n → n < length (preorder t)
   fails_within list (by rule us) n (inl f) = omega (arith, f.0)
-  fails_within list (by rule us) n (inr f) = omega (arith, f.3, some_fails_within (map (λ a. list ++ a) f.0) us f.2 f.4)
+  fails_within list (by rule us) n (inr f) = omega (arith, f.3, some_fails_within f.0 us f.2 f.4)
 
   some_fails_within : (lists : List (List PlainFormula)) (us : Premises) (n : ℕ) → SomeFailsAt lists us n → n < length (preorder_each us)
   some_fails_within [] us n f = absurd f
@@ -44,7 +44,7 @@ lined functions bytes t p =
     ∙ length-map (preorder t) (line_of functions)
 
 -- what the check of a proof that was read says of the step that it names
-abbrev FailsAlways : List PlainFormula → List Rule → ℕ → Type 0
+abbrev pub FailsAlways : List PlainFormula → List Rule → ℕ → Type 0
 FailsAlways list rules n = (tree : ProofTree) → HasShape tree → preorder tree ≡ rules → FailsAt list tree n
 
 failing : (functions : List Symbol) (bytes : List ℕ) (rules : List Rule) (numbers : List ℕ) (list : List PlainFormula) (n : ℕ)
@@ -68,7 +68,7 @@ wrong_at problem bytes rules numbers n r h none =
       stands =
           subst (λ ms. slice_get ms n ≡ Some (get_or numbers n 0)) r.stand
           (slice_get-get_or numbers n 0 (within problem.symbols.functions bytes rules numbers (Start problem) n r h));
-      not_refuted = λ refutes. none (r.tree, r.are, refutes);
+      not_valid = λ v. none (r.tree, r.are, subst (Refutes (Start problem)) (r.only v.tree v.text) v.refutes);
     }
 
 -- a proof that was read and that refutes the start list

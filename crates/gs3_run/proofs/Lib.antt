@@ -1,3 +1,4 @@
 pub mod Failing
 pub mod Names
 pub mod Told
+pub mod Valid

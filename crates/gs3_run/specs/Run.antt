@@ -1,13 +1,17 @@
 -- What a check of a proof answers, what it prints, and why.
-use Rattle.std.specs.Prelude.{◌≡◌, ◌≢◌, ◌⊎◌, ℕ, ◌<◌, ◌≤◌, List, [], ◌∷◌, ◌++◌, map, codes, decimal, Option, Some, IfSome, String, string_bytes, length, slice_get}
+use Rattle.std.specs.Prelude.{◌≡◌, ◌≢◌, ◌⊎◌, ℕ, ◌<◌, ◌≤◌, List, [], ◌∷◌, ◌++◌, map, length, slice_get}
+use Rattle.std.specs.Prelude.{codes, decimal, Option, Some, IfSome, String, string_bytes}
 use Rattle.gl_outside.specs.Outside.{HasRisen, Appends, AppendsFront}
 use Rattle.fof_parse.specs.Problem.{PlainProblem, Start}
-use Rattle.fof_parse.specs.TheProblem.{IsTheProblem, IsNoProblem}
+use Rattle.fof_parse.specs.TheProblem.{most_bytes, IsTheProblem, IsNoProblem}
 use Rattle.fof_parse.specs.Lines.{IsRefusal}
+use Rattle.fol_core.specs.Symbol.{Symbol}
+use Rattle.gs3_rules.specs.Rules.{Rule}
 use Rattle.gs3_rules.specs.Refutes.{ProofTree, Refutes, FailsAt}
-use Rattle.gs3_text.specs.ProofText.{text_of, ProofText, IsMalformedAt, step_lines}
+use Rattle.gs3_text.specs.ProofText.{text_of, ProofText, IsReading, IsMalformedAt, step_lines}
 use Rattle.gs3_run.specs.declared.run.Report.{Report}
-use Rattle.gs3_run.specs.declared.run.Report.TheVariants.{Usage, TooLarge, Refused, TooLargeProof, ReadFault, Valid, Invalid}
+use Rattle.gs3_run.specs.declared.run.Report.TheVariants.{Usage, TooLarge, Refused, TooLargeProof, ReadFault}
+use Rattle.gs3_run.specs.declared.run.Report.TheVariants.{Valid, Invalid}
 use Rattle.gs3_run.specs.declared.run.CheckStatus.{CheckStatus}
 use Rattle.gs3_run.specs.declared.run.CheckStatus.TheVariants as status
 
@@ -31,10 +35,7 @@ AreNoNames words = (problem proof : List ℕ) → AreNames words problem proof �
 abbrev pub HaveNames : List (List ℕ) → Type 0
 HaveNames words = (problem proof : List ℕ) × AreNames words problem proof
 
--- the most bytes of a problem, and of a proof
-abbrev pub most_problem_bytes : ℕ
-most_problem_bytes = 16777216
-
+-- the most bytes of a proof
 abbrev pub most_proof_bytes : ℕ
 most_proof_bytes = 134217728
 
@@ -46,14 +47,14 @@ abbrev pub wrong_line : ℕ → List ℕ
 wrong_line line = codes "% gs3check Wrong " ++ decimal line
 
 -- all that is printed
-abbrev pub printed : Report → List ℕ
-printed Usage = text_of (codes "% usage: gs3check PROBLEM PROOF" ∷ [])
-printed TooLarge = text_of (codes "% refused TooLarge" ∷ [])
-printed (Refused text) = text.items
-printed TooLargeProof = text_of (codes "% refused TooLarge proof" ∷ [])
-printed ReadFault = text_of (codes "% read fault" ∷ [])
-printed Valid = text_of (codes "% gs3check Valid" ∷ [])
-printed (Invalid text) = text.items
+abbrev pub output_of : Report → List ℕ
+output_of Usage = text_of (codes "% usage: gs3check PROBLEM PROOF" ∷ [])
+output_of TooLarge = text_of (codes "% refused TooLarge" ∷ [])
+output_of (Refused text) = text.items
+output_of TooLargeProof = text_of (codes "% refused TooLarge proof" ∷ [])
+output_of ReadFault = text_of (codes "% read fault" ∷ [])
+output_of Valid = text_of (codes "% gs3check Valid" ∷ [])
+output_of (Invalid text) = text.items
 
 abbrev pub status_of : Report → CheckStatus
 status_of Usage = status.Usage
@@ -80,25 +81,29 @@ pub record IsValid (problem : PlainProblem) (bytes : List ℕ) : Type 0 where
   pub text : ProofText problem.symbols.functions bytes tree
   pub refutes : Refutes (Start problem) tree
 
--- The bytes are a proof text of a tree that does not refute the start list, and the first step in preorder whose condition fails
--- stands in this line, the lines counted from 1.
+-- The bytes are a proof text, but of no tree that refutes the start list, and the first step in preorder whose
+-- condition fails stands in this line, the lines counted from 1.
 pub record IsWrongAt (problem : PlainProblem) (bytes : List ℕ) (line : ℕ) : Type 0 where
   pub tree : ProofTree
   pub text : ProofText problem.symbols.functions bytes tree
   pub step : ℕ
   pub fails : FailsAt (Start problem) tree step
   pub stands : slice_get (step_lines text.lines) step ≡ Some line
-  pub not_refuted : Refutes (Start problem) tree → ⊥
+  pub not_valid : IsValid problem bytes → ⊥
 
 -- The bytes are a proof text of no tree, and this is the first line that cannot go on.
 pub record IsNoTextAt (problem : PlainProblem) (bytes : List ℕ) (line : ℕ) : Type 0 where
   pub malformed : IsMalformedAt problem.symbols.functions bytes line
   pub no_text : (tree : ProofTree) → ProofText problem.symbols.functions bytes tree → ⊥
 
+-- some bytes are a text of these steps, with each step in the line with its number
+abbrev pub WasRead : List Rule → List ℕ → Type 0
+WasRead rules numbers = (functions : List Symbol) × (bytes : List ℕ) × IsReading functions bytes rules numbers
+
 -- what is reported of bytes that are no problem's text
 abbrev pub RefusesText : List ℕ → Report → Type 0
 RefusesText bytes Usage = ⊥
-RefusesText bytes TooLarge = most_problem_bytes < length bytes
+RefusesText bytes TooLarge = most_bytes < length bytes
 RefusesText bytes (Refused text) = IsNoProblem bytes × IsRefusal bytes text.items
 RefusesText bytes TooLargeProof = ⊥
 RefusesText bytes ReadFault = ⊥
@@ -129,7 +134,7 @@ Tells told bytes = IfSome told (λ b. bytes ≡ b)
 pub record ReadsProblem (told : Option (List ℕ)) (problem : PlainProblem) : Type 0 where
   pub bytes : List ℕ
   pub are : Tells told bytes
-  pub within : length bytes ≤ most_problem_bytes
+  pub within : length bytes ≤ most_bytes
   pub is_the : IsTheProblem bytes problem
 
 -- the bytes of a proof that was read, and what is reported of them
@@ -139,8 +144,16 @@ pub record ReadsProof (problem : PlainProblem) (told : Option (List ℕ)) (r : R
   pub within : length bytes ≤ most_proof_bytes
   pub judged : Judges problem bytes r
 
--- What is reported of a problem that was read, of the bytes of the proof, where they are told, and of the shelf's faults before and
--- after.
+-- the bytes of a problem that is refused, and what is printed of them
+pub record ReadsNoProblem (told : Option (List ℕ)) (text : List ℕ) : Type 0 where
+  pub bytes : List ℕ
+  pub are : Tells told bytes
+  pub within : length bytes ≤ most_bytes
+  pub none : IsNoProblem bytes
+  pub refusal : IsRefusal bytes text
+
+-- What is reported of a problem that was read, of the bytes of the proof, where they are told, and of the shelf's
+-- faults before and after.
 abbrev pub FitsProof : PlainProblem → Option (List ℕ) → ℕ → ℕ → Report → Type 0
 FitsProof problem told before after Usage = ⊥
 FitsProof problem told before after TooLarge = ⊥
@@ -153,12 +166,15 @@ FitsProof problem told before after (Invalid text) = (after ≡ before) × Reads
 -- What is reported of the bytes of the problem and of the proof.
 abbrev pub FitsBoth : Option (List ℕ) → Option (List ℕ) → ℕ → ℕ → Report → Type 0
 FitsBoth told proof before after Usage = ⊥
-FitsBoth told proof before after TooLarge = (after ≡ before) × IfSome told (λ b. most_problem_bytes < length b)
-FitsBoth told proof before after (Refused text) = (after ≡ before) × ((bytes : List ℕ) × Tells told bytes × (length bytes ≤ most_problem_bytes) × IsNoProblem bytes × IsRefusal bytes text.items)
+FitsBoth told proof before after TooLarge = (after ≡ before) × IfSome told (λ b. most_bytes < length b)
+FitsBoth told proof before after (Refused text) = (after ≡ before) × ReadsNoProblem told text.items
 FitsBoth told proof before after ReadFault = HasRisen before after
-FitsBoth told proof before after TooLargeProof = (problem : PlainProblem) × ReadsProblem told problem × FitsProof problem proof before after TooLargeProof
-FitsBoth told proof before after Valid = (problem : PlainProblem) × ReadsProblem told problem × FitsProof problem proof before after Valid
-FitsBoth told proof before after (Invalid text) = (problem : PlainProblem) × ReadsProblem told problem × FitsProof problem proof before after (Invalid text)
+FitsBoth told proof before after TooLargeProof =
+    (problem : PlainProblem) × ReadsProblem told problem × FitsProof problem proof before after TooLargeProof
+FitsBoth told proof before after Valid =
+    (problem : PlainProblem) × ReadsProblem told problem × FitsProof problem proof before after Valid
+FitsBoth told proof before after (Invalid text) =
+    (problem : PlainProblem) × ReadsProblem told problem × FitsProof problem proof before after (Invalid text)
 
 abbrev pub IsUsage : Report → Type 0
 IsUsage Usage = Unit {0}
@@ -178,12 +194,13 @@ Fits words holds before after r =
 -- The report is printed whole, or the sink failed after some front of it.
 abbrev pub Prints : Report → Option (List ℕ) → Option (List ℕ) → ℕ → ℕ → CheckStatus → Type 0
 Prints r old new before after s =
-    ((s ≡ status_of r) × Appends old (printed r) new × (after ≡ before))
-    ⊎ ((s ≡ status.WriteFault) × AppendsFront old (printed r) new × HasRisen before after)
+    ((s ≡ status_of r) × Appends old (output_of r) new × (after ≡ before))
+    ⊎ ((s ≡ status.WriteFault) × AppendsFront old (output_of r) new × HasRisen before after)
 
--- A check with these words: its report is as it has to be, and is printed. Want of memory comes only with the names of a problem and a
--- proof; then nothing was written, and no fault came.
-abbrev pub Ran : List (List ℕ) → (List ℕ → Option (List ℕ)) → ℕ → ℕ → Option (List ℕ) → Option (List ℕ) → ℕ → ℕ → CheckStatus → Type 0
+-- A check with these words: its report is as it has to be, and is printed. Want of memory comes only with the names of
+-- a problem and a proof; then nothing was written, and no fault came.
+abbrev pub Ran : List (List ℕ) → (List ℕ → Option (List ℕ)) → ℕ → ℕ
+    → Option (List ℕ) → Option (List ℕ) → ℕ → ℕ → CheckStatus → Type 0
 Ran words holds before after old new faults faults' s =
     ((s ≡ status.OutOfMemory) × HaveNames words × (after ≡ before) × (new ≡ old) × (faults' ≡ faults))
     ⊎ ((r : Report) × Fits words holds before after r × Prints r old new faults faults' s)

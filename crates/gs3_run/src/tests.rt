@@ -1,3 +1,5 @@
+//! Checks of small proofs, and of words, problems and shelves that are amiss.
+
 use crate::{CheckStatus, check_run};
 use gl_outside::{Files, MemoryShelf, MemorySink};
 use std::alloc::{AllocError, Global};
@@ -7,7 +9,14 @@ const PROBLEM: &[u8] = b"fof(a,axiom,p).\nfof(b,axiom,p=>q).\nfof(c,conjecture,q
 /// Someone drinks only where all do.
 const DRINKER: &[u8] = b"fof(c,conjecture,?[X]:(d(X)=>![Y]:d(Y))).\n";
 
+/// The axiom `p` alone, and a second statement that is none.
+const BROKEN: &[u8] = b"fof(a,axiom,p).\nfof(b,axiom,p&).\n";
+
 const USAGE: &[u8] = b"% usage: gs3check PROBLEM PROOF\n";
+
+const READ_FAULT: &[u8] = b"% read fault\n";
+
+const VALID: &[u8] = b"% gs3check Valid\n";
 
 fn add(alloc: Global, files: &mut Files, name: &str, bytes: &[u8]) -> Result<(), AllocError> {
     let name = String::from_str(alloc, name)?;
@@ -15,107 +24,76 @@ fn add(alloc: Global, files: &mut Files, name: &str, bytes: &[u8]) -> Result<(),
     files.add(name, bytes)
 }
 
-/// Two problems under the names `p` and `d`, and these bytes under the name `-`.
+/// Three problems under the names `p`, `d` and `b`, and these bytes under the name `-`.
 fn shelf(alloc: Global, proof: &[u8]) -> Result<MemoryShelf, AllocError> {
     let mut files = Files::new(alloc);
     add(alloc, &mut files, "p", PROBLEM)?;
     add(alloc, &mut files, "d", DRINKER)?;
+    add(alloc, &mut files, "b", BROKEN)?;
     add(alloc, &mut files, "-", proof)?;
     Ok(MemoryShelf::new(files))
 }
 
-/// Whether the check with these words ends so and says so of the bytes.
+fn strings(alloc: Global, words: &[&str]) -> Result<Vec<String>, AllocError> {
+    let mut list = Vec::new(alloc);
+    for word in words {
+        list.push(String::from_str(alloc, word)?)?;
+    }
+    Ok(list)
+}
+
+/// Whether the check with these words ends so and says so of the bytes, where the output has that much room.
 fn says(
     alloc: Global,
-    words: &[String],
+    words: &[&str],
     proof: &[u8],
+    room: usize,
     status: CheckStatus,
     line: &[u8],
 ) -> Result<bool, AllocError> {
+    let words = strings(alloc, words)?;
     let mut shelf = shelf(alloc, proof)?;
-    let mut out = MemorySink::new(alloc, 100)?;
-    let ended = check_run(alloc, words, &mut shelf, &mut out);
+    let mut out = MemorySink::new(alloc, room)?;
+    let ended = check_run(alloc, words.as_slice(), &mut shelf, &mut out);
     Ok(ended == status && out.bytes() == line)
 }
 
-/// Whether the check of the bytes as a proof of the problem ends so and says so.
-fn judges_of(
-    alloc: Global,
-    problem: &str,
-    proof: &[u8],
-    status: CheckStatus,
-    line: &[u8],
-) -> Result<bool, AllocError> {
-    let mut words = Vec::new(alloc);
-    words.push(String::from_str(alloc, problem)?)?;
-    words.push(String::from_str(alloc, "-")?)?;
-    says(alloc, words.as_slice(), proof, status, line)
-}
-
-/// The same of the first problem.
-fn judges(
-    alloc: Global,
-    proof: &[u8],
-    status: CheckStatus,
-    line: &[u8],
-) -> Result<bool, AllocError> {
-    judges_of(alloc, "p", proof, status, line)
-}
-
 #[test]
-fn takes_a_proof(rt: HostRuntime) -> Result<(), AllocError> {
-    let text =
-        b"% SZS status Theorem for -\n% depth 1\n% engine plain\n% SZS output start Proof for -\ngs3 1\nbeta 1\nclose 0 3\nclose 3 2\n% SZS output end Proof for -\n";
-    let valid = judges(rt.alloc(), text, CheckStatus::Valid, b"% gs3check Valid\n")?;
-    assert!(rt; valid);
-    Ok(())
-}
-
-#[test]
-fn names_the_line_that_cannot_go_on(rt: HostRuntime) -> Result<(), AllocError> {
-    let rows: [(&[u8], &[u8]); 4] = [
+fn takes_a_proof_and_names_the_line_that_cannot_go_on(rt: HostRuntime) -> Result<(), AllocError> {
+    let rows: [(&[u8], CheckStatus, &[u8]); 6] = [
+        (
+            b"% SZS status Theorem for -\n%\n%\n%\ngs3 1\nbeta 1\nclose 0 3\nclose 3 2\n% end\n",
+            CheckStatus::Valid,
+            VALID,
+        ),
         (
             b"%\n%\n%\n%\ngs3 1\nbeta 1\nclose 0 3\n%\n",
+            CheckStatus::Invalid,
             b"% gs3check Malformed 9\n",
         ),
         (
             b"%\n%\n%\n%\ngs3 1\nbeta 1\nclose 0 3\nclose 03 2\n%\n",
-            b"% gs3check Malformed 8\n",
-        ),
-        (
-            b"%\n%\n%\n%\ngs3 1\ngamma 0 #0\nclose 0 3\nclose 3 2\n%\n",
+            CheckStatus::Invalid,
             b"% gs3check Malformed 8\n",
         ),
         (
             b"gs3 1\nbeta 1\nclose 0 3\nclose 3 2\nclose 3 2\n",
+            CheckStatus::Invalid,
             b"% gs3check Malformed 5\n",
-        ),
-    ];
-    for (proof, line) in rows {
-        let told = judges(rt.alloc(), proof, CheckStatus::Invalid, line)?;
-        assert!(rt; told);
-    }
-    Ok(())
-}
-
-#[test]
-fn names_the_line_that_goes_wrong(rt: HostRuntime) -> Result<(), AllocError> {
-    let rows: [(&[u8], &[u8]); 3] = [
-        (
-            b"%\n%\n%\n%\ngs3 1\nbeta 1\nclose 0 2\nclose 3 2\n%\n",
-            b"% gs3check Wrong 7\n",
         ),
         (
             b"%\n%\n%\n%\ngs3 1\nbeta 1\nclose 0 9\nclose 3 2\n%\n",
+            CheckStatus::Invalid,
             b"% gs3check Wrong 7\n",
         ),
         (
             b"gs3 1\nbeta 1\n%\nclose 0 3\n%\n%\nclose 3 0\n",
+            CheckStatus::Invalid,
             b"% gs3check Wrong 7\n",
         ),
     ];
-    for (proof, line) in rows {
-        let told = judges(rt.alloc(), proof, CheckStatus::Invalid, line)?;
+    for (proof, status, line) in rows {
+        let told = says(rt.alloc(), &["p", "-"], proof, 100, status, line)?;
         assert!(rt; told);
     }
     Ok(())
@@ -123,43 +101,56 @@ fn names_the_line_that_goes_wrong(rt: HostRuntime) -> Result<(), AllocError> {
 
 #[test]
 fn checks_a_proof_with_quantifiers(rt: HostRuntime) -> Result<(), AllocError> {
-    let rows: [(&[u8], CheckStatus, &[u8]); 4] = [
+    let rows: [(&[u8], CheckStatus, &[u8]); 3] = [
         (
-            b"%\n%\n%\n%\ngs3 1\ngamma 0 #0\nalpha 1\ndelta 3 #1\ngamma 0 #1\nalpha 5\nclose 6 4\n%\n",
+            b"gs3 1\ngamma 0 #0\nalpha 1\ndelta 3 #1\ngamma 0 #1\nalpha 5\nclose 6 4\n",
             CheckStatus::Valid,
-            b"% gs3check Valid\n",
+            VALID,
         ),
         (
-            b"%\n%\n%\n%\ngs3 1\ngamma 0 #0\nalpha 1\ndelta 3 #0\ngamma 0 #1\nalpha 5\nclose 6 4\n%\n",
+            b"gs3 1\ngamma 0 #0\nalpha 1\ndelta 3 #0\ngamma 0 #1\nalpha 5\nclose 6 4\n",
             CheckStatus::Invalid,
-            b"% gs3check Wrong 8\n",
+            b"% gs3check Wrong 4\n",
         ),
         (
-            b"%\n%\n%\n%\ngs3 1\ngamma 0 #0\nalpha 1\ndelta 3 #1\ngamma 0 #1\nalpha 5\n%\n",
+            b"gs3 1\ngamma 0 e\nalpha 1\ndelta 3 #1\ngamma 0 #1\nalpha 5\nclose 6 4\n",
             CheckStatus::Invalid,
-            b"% gs3check Malformed 12\n",
-        ),
-        (
-            b"%\n%\n%\n%\ngs3 1\ngamma 0 e\nalpha 1\ndelta 3 #1\ngamma 0 #1\nalpha 5\nclose 6 4\n%\n",
-            CheckStatus::Invalid,
-            b"% gs3check Malformed 6\n",
+            b"% gs3check Malformed 2\n",
         ),
     ];
     for (proof, status, line) in rows {
-        let told = judges_of(rt.alloc(), "d", proof, status, line)?;
+        let told = says(rt.alloc(), &["d", "-"], proof, 100, status, line)?;
         assert!(rt; told);
     }
     Ok(())
 }
 
 #[test]
-fn wants_two_names(rt: HostRuntime) -> Result<(), AllocError> {
-    let mut words = Vec::new(rt.alloc());
-    words.push(String::from_str(rt.alloc(), "-")?)?;
-    let one = says(rt.alloc(), words.as_slice(), b"", CheckStatus::Usage, USAGE)?;
-    assert!(rt; one);
-    words.push(String::from_str(rt.alloc(), "-")?)?;
-    let both = says(rt.alloc(), words.as_slice(), b"", CheckStatus::Usage, USAGE)?;
-    assert!(rt; both);
+fn says_what_is_amiss_with_the_names(rt: HostRuntime) -> Result<(), AllocError> {
+    let rows: [(&[&str], CheckStatus, &[u8]); 6] = [
+        (&["-"], CheckStatus::Usage, USAGE),
+        (&["-", "-"], CheckStatus::Usage, USAGE),
+        (&["p", ""], CheckStatus::Usage, USAGE),
+        // The problem is missing, the proof is missing, and both the problem is refused and the proof is missing.
+        (&["none", "-"], CheckStatus::ReadFault, READ_FAULT),
+        (&["p", "none"], CheckStatus::ReadFault, READ_FAULT),
+        (
+            &["b", "none"],
+            CheckStatus::Refused,
+            b"% refused Syntax at 16\n",
+        ),
+    ];
+    for (words, status, line) in rows {
+        let told = says(rt.alloc(), words, b"", 100, status, line)?;
+        assert!(rt; told);
+    }
+    Ok(())
+}
+
+#[test]
+fn writes_what_has_room(rt: HostRuntime) -> Result<(), AllocError> {
+    let fault = CheckStatus::WriteFault;
+    let cut = says(rt.alloc(), &["p", "-"], b"gs3 1\n", 3, fault, b"% g")?;
+    assert!(rt; cut);
     Ok(())
 }

@@ -143,39 +143,6 @@ malformed_end functions symbols bytes rest number s p is_line bad = record {
   ends = λ _. elim bad [ inl some ↦ inl some | inr owes ↦ inr (not_whole functions symbols p.before s p.scanned owes) ];
 }
 
-read_case : (functions : List Symbol) (bytes : List ℕ) (lines : List (List ℕ)) (s : Scan) → bytes ≡ text_of lines → AllByRecursion IsLine lines → s.owed ≡ Some 0 → Front functions 1 lines s → IsReading functions bytes s.rules s.numbers
-read_case functions bytes lines s text whole owes (nothing said none) = absurd (none-some 0 (sym none ∙ owes))
-read_case functions bytes lines s text whole owes (begun steps left said spellable counted left_is rules numbers) =
-    let proof = whole_from steps (counted ∙ sym left_is ∙ owes) in record {
-      tree = proof.0;
-      text = record {
-        lines = lines;
-        text = text;
-        of_tree = record { whole = whole; said = said ∙ ap (proof_lines functions) (sym proof.2); shaped = proof.1; spellable = subst (AllByRecursion (IsSpellable functions)) (sym proof.2) spellable };
-      };
-      are = proof.2 ∙ sym rules;
-      stand = numbers;
-    }
-
-pub read_all : (functions : List Symbol) (bytes rest : List ℕ) (number : ℕ) (s : Scan) → IsReadTo functions bytes rest number s → rest ≡ [] → s.owed ≡ Some 0 → IsReading functions bytes s.rules s.numbers
-read_all functions bytes rest number s p none owes =
-    read_case functions bytes p.before s (p.text ∙ ap (λ bs. text_of p.before ++ bs) none ∙ append-nil (text_of p.before)) p.whole owes (scan_front_says functions p.before 1 s p.scanned)
-
--- Laws of texts
-
--- A text with a line that cannot go on is no text of any tree.
-pub malformed_no_text : (functions : List Symbol) (bytes : List ℕ) (line : ℕ) → IsMalformedAt functions bytes line → (tree : ProofTree) → ProofText functions bytes tree → ⊥
-malformed_no_text functions bytes line m tree p =
-    let same = one_cut m.lines p.lines m.rest [] m.whole p.of_tree.whole m.rest_is_line refl (sym m.text ∙ p.text ∙ sym (append-nil (text_of p.lines))) in
-    let are = subst (λ ls. AreLinesOf functions ls tree) (sym same.0) p.of_tree in
-    elim (cases_order m.good (length m.lines)) [
-      | inl e ↦ elim (m.ends e) [ inl some ↦ omega (arith, some, ap length same.1) | inr none ↦ none tree are ]
-      | inr other ↦ elim other [
-        | inl lt ↦ m.stops lt (drop (suc m.good) m.lines, tree, subst (λ ls. AreLinesOf functions ls tree) (sym (take-append-drop (suc m.good) m.lines)) are)
-        | inr gt ↦ omega (arith, gt, m.within)
-      ]
-    ]
-
 same_steps : (functions : List Symbol) → AreSymbols functions → (rs qs : List Rule) → AllByRecursion (IsSpellable functions) rs → AllByRecursion (IsSpellable functions) qs → map (line_of functions) rs ≡ map (line_of functions) qs → rs ≡ qs
 same_steps functions symbols [] [] a b e = refl
 same_steps functions symbols [] (q ∷ qs) a b e = cc
@@ -192,6 +159,41 @@ one_tree functions symbols bytes s t p q =
     let lines = sym p.of_tree.said ∙ ap (filter says) same.0 ∙ q.of_tree.said in
     one_tree_of s t p.of_tree.shaped q.of_tree.shaped
     (same_steps functions symbols (preorder s) (preorder t) p.of_tree.spellable q.of_tree.spellable (tails heading heading (map (line_of functions) (preorder s)) (map (line_of functions) (preorder t)) lines))
+
+read_case : (functions : List Symbol) → AreSymbols functions → (bytes : List ℕ) (lines : List (List ℕ)) (s : Scan) → bytes ≡ text_of lines → AllByRecursion IsLine lines → s.owed ≡ Some 0 → Front functions 1 lines s → IsReading functions bytes s.rules s.numbers
+read_case functions symbols bytes lines s text whole owes (nothing said none) = absurd (none-some 0 (sym none ∙ owes))
+read_case functions symbols bytes lines s text whole owes (begun steps left said spellable counted left_is rules numbers) =
+    let proof = whole_from steps (counted ∙ sym left_is ∙ owes) in
+    let its_text : ProofText functions bytes proof.0 = record {
+      lines = lines;
+      text = text;
+      of_tree = record { whole = whole; said = said ∙ ap (proof_lines functions) (sym proof.2); shaped = proof.1; spellable = subst (AllByRecursion (IsSpellable functions)) (sym proof.2) spellable };
+    } in record {
+      tree = proof.0;
+      text = its_text;
+      only = λ other other_text. one_tree functions symbols bytes other proof.0 other_text its_text;
+      are = proof.2 ∙ sym rules;
+      stand = numbers;
+    }
+
+pub read_all : (functions : List Symbol) → AreSymbols functions → (bytes rest : List ℕ) (number : ℕ) (s : Scan) → IsReadTo functions bytes rest number s → rest ≡ [] → s.owed ≡ Some 0 → IsReading functions bytes s.rules s.numbers
+read_all functions symbols bytes rest number s p none owes =
+    read_case functions symbols bytes p.before s (p.text ∙ ap (λ bs. text_of p.before ++ bs) none ∙ append-nil (text_of p.before)) p.whole owes (scan_front_says functions p.before 1 s p.scanned)
+
+-- Laws of texts
+
+-- A text with a line that cannot go on is no text of any tree.
+pub malformed_no_text : (functions : List Symbol) (bytes : List ℕ) (line : ℕ) → IsMalformedAt functions bytes line → (tree : ProofTree) → ProofText functions bytes tree → ⊥
+malformed_no_text functions bytes line m tree p =
+    let same = one_cut m.lines p.lines m.rest [] m.whole p.of_tree.whole m.rest_is_line refl (sym m.text ∙ p.text ∙ sym (append-nil (text_of p.lines))) in
+    let are = subst (λ ls. AreLinesOf functions ls tree) (sym same.0) p.of_tree in
+    elim (cases_order m.good (length m.lines)) [
+      | inl e ↦ elim (m.ends e) [ inl some ↦ omega (arith, some, ap length same.1) | inr none ↦ none tree are ]
+      | inr other ↦ elim other [
+        | inl lt ↦ m.stops lt (drop (suc m.good) m.lines, tree, subst (λ ls. AreLinesOf functions ls tree) (sym (take-append-drop (suc m.good) m.lines)) are)
+        | inr gt ↦ omega (arith, gt, m.within)
+      ]
+    ]
 
 terms_spellable : (functions : List Symbol) (rules : List Rule) → AllByRecursion (IsSpellable functions) rules → AllByRecursion (IsSpellableTerm functions) rules
 terms_spellable functions [] p = tt

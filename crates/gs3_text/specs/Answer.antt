@@ -14,5 +14,6 @@ scan_of s = record { owed = s.owed; rules = rules_of s.steps; numbers = s.lines 
 
 -- Malformed names the first line that cannot go on, and the bytes are no text of any tree.
 abbrev pub IsRefused : List Symbol → List ℕ → TextError → Type 0
-IsRefused functions bytes (Malformed line) = IsMalformedAt functions bytes line × ((tree : ProofTree) → ProofText functions bytes tree → ⊥)
+IsRefused functions bytes (Malformed line) =
+    IsMalformedAt functions bytes line × ((tree : ProofTree) → ProofText functions bytes tree → ⊥)
 IsRefused functions bytes OutOfMemory = Unit {0}

@@ -1,11 +1,11 @@
 -- The text of a GS3 proof over the function symbols of a problem.
-use Rattle.std.specs.Prelude.{◌≡◌, ℕ, suc, ◌<◌, ◌≤◌, ◌^◌, Bool, true, false, ◌||◌, eqb, if◌then◌else◌, List, [], ◌∷◌, ◌++◌, map, length, take, drop, codes, decimal, ◌⊎◌}
+use Rattle.std.specs.Prelude.{◌≡◌, ◌⊎◌, ℕ, suc, ◌<◌, ◌≤◌, ◌^◌, Bool, true, false, ◌||◌, eqb, if◌then◌else◌}
+use Rattle.std.specs.Prelude.{codes, decimal, List, [], ◌∷◌, ◌++◌, map, length, take, drop}
 use Rattle.std.specs.List.{AllByRecursion, filter, flat_map}
 use Rattle.fol_core.specs.Symbol.{Symbol}
 use Rattle.fol_core.specs.Spelling.{spelled, spelled_param, IsOver, depth}
 use Rattle.gs3_rules.specs.Rules.{Rule, close, false_at, not_true, alpha, beta, delta, gamma}
-use Rattle.gs3_rules.specs.Refutes.{ProofTree, preorder}
-use Rattle.gs3_rules.specs.Refutes.{HasShape}
+use Rattle.gs3_rules.specs.Refutes.{ProofTree, preorder, HasShape}
 
 -- A step's line: the step's name, its places from 0, and the parameter or the term, one blank between the parts.
 abbrev pub line_of : List Symbol → Rule → List ℕ
@@ -111,9 +111,11 @@ pub record IsMalformedAt (functions : List Symbol) (bytes : List ℕ) (line : �
   pub stops : good < length lines → CanGoOn functions (take (suc good) lines) → ⊥
   pub ends : good ≡ length lines → (0 < length rest) ⊎ ((tree : ProofTree) → AreLinesOf functions lines tree → ⊥)
 
--- The bytes are a text of the proof tree with these steps, and each step stands in the line with its number.
+-- The bytes are a text of the proof tree with these steps, and of no other tree; each step stands in the line with its
+-- number.
 pub record IsReading (functions : List Symbol) (bytes : List ℕ) (steps : List Rule) (numbers : List ℕ) : Type 0 where
   pub tree : ProofTree
   pub text : ProofText functions bytes tree
+  pub only : (other : ProofTree) → ProofText functions bytes other → other ≡ tree
   pub are : preorder tree ≡ steps
   pub stand : numbers ≡ step_lines text.lines

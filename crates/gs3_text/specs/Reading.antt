@@ -1,5 +1,7 @@
 -- Reading from left to right: what stands at the front of the bytes, and the bytes behind it, or nothing.
-use Rattle.std.specs.Prelude.{◌≡◌, ℕ, zero, suc, ◌+◌, ◌-◌, ◌*◌, ◌^◌, Bool, true, false, not, ◌&&◌, ◌||◌, eqb, nat_le, if◌then◌else◌, List, [], ◌∷◌, ◌++◌, length, take, drop, codes, Option, Some, None, option_map, Result, Ok, Err}
+use Rattle.std.specs.Prelude.{◌≡◌, ℕ, zero, suc, ◌+◌, ◌-◌, ◌*◌, ◌^◌, Bool, true, false, not, ◌&&◌, ◌||◌, eqb, nat_le}
+use Rattle.std.specs.Prelude.{if◌then◌else◌, List, [], ◌∷◌, ◌++◌, length, take, drop, codes}
+use Rattle.std.specs.Prelude.{Option, Some, None, option_map, Result, Ok, Err}
 use Rattle.std.specs.List.{prefix_len}
 use Rattle.std.specs.Bool.{beq}
 use Rattle.std.specs.Str.{bytes_eq}
@@ -53,10 +55,12 @@ value_after n (c ∷ cs) = value_after (n * 10 + (c - 48)) cs
 unfoldable pub number_of : ℕ → List ℕ → Option ℕ
 number_of limit [] = None
 number_of limit (c ∷ cs) =
-    if (eqb c 48 && nat_le 1 (length cs)) || nat_le limit (value_after 0 (c ∷ cs)) then None else Some (value_after 0 (c ∷ cs))
+    let n = value_after 0 (c ∷ cs) in
+    if (eqb c 48 && nat_le 1 (length cs)) || nat_le limit n then None else Some n
 
 unfoldable pub number_at : ℕ → List ℕ → Read ℕ
-number_at limit bytes = let n = prefix_len is_digit bytes in option_map (λ x. (x, drop n bytes)) (number_of limit (take n bytes))
+number_at limit bytes =
+    let n = prefix_len is_digit bytes in option_map (λ x. (x, drop n bytes)) (number_of limit (take n bytes))
 
 -- Symbols
 
@@ -74,7 +78,8 @@ is_escape escape c = not escape && eqb c 92
 -- What stands before the closing quote, where the flag says that a backslash stands before the bytes.
 unfoldable pub quoted_at : Bool → List ℕ → Read (List ℕ)
 quoted_at escape [] = None
-quoted_at escape (c ∷ cs) = if not escape && eqb c 39 then Some ([], cs) else onto (c ∷ []) (quoted_at (is_escape escape c) cs)
+quoted_at escape (c ∷ cs) =
+    if not escape && eqb c 39 then Some ([], cs) else onto (c ∷ []) (quoted_at (is_escape escape c) cs)
 
 unfoldable pub spelling_at : List ℕ → Read Spelling
 spelling_at [] = None
@@ -141,7 +146,8 @@ unfoldable pub term_at : List Symbol → ℕ → List ℕ → Read PlainTerm
 term_at functions zero bytes = None
 term_at functions (suc depth) [] = None
 term_at functions (suc depth) (c ∷ cs) =
-    if eqb c 35 then option_map (λ n. (param n.0, n.1)) (number_at (2 ^ 64) cs) else application_at functions (term_at functions depth) (c ∷ cs)
+    if eqb c 35 then option_map (λ n. (param n.0, n.1)) (number_at (2 ^ 64) cs)
+    else application_at functions (term_at functions depth) (c ∷ cs)
 
 -- Lines
 

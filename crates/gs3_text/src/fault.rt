@@ -1,3 +1,5 @@
+//! Why a part of a text was not read.
+
 use std::alloc::{AllocError, AllocFailed};
 
 /// Why nothing was read.

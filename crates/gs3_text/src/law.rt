@@ -1,3 +1,5 @@
+//! What is true of all proof texts.
+
 ghost use Rattle.std.specs.Prelude.{◌≡◌, ℕ, List};
 ghost use Rattle.fol_core.specs.Symbol.{Symbol, AreSymbols};
 ghost use Rattle.gs3_rules.specs.Refutes.{ProofTree};

@@ -1,3 +1,5 @@
+//! Reading a proof text.
+
 ghost use Rattle.std.specs.Prelude.{◌≡◌, IfOk, IfErr};
 ghost use Rattle.gs3_rules.specs.Apply.{rules_of};
 ghost use Rattle.gs3_text.specs.Answer.{IsRefused};

@@ -1,3 +1,5 @@
+//! The lines of a proof text, read one after the other.
+
 ghost use Rattle.std.specs.Prelude.{◌≡◌, ◌++◌, ◌∷◌, ◌↔◌, Some, IsTrue, MatchOption};
 ghost use Rattle.gs3_rules.specs.Apply.{rule_of};
 ghost use Rattle.gs3_rules.specs.Refutes.{premises_of};
@@ -16,8 +18,8 @@ use std::alloc::Global;
 /// The numbers of the steps' lines.
 pub type Lines = Items<u64>;
 
-/// What the lines so far say: how many premises still need a proof, once the heading is there; the steps; and the numbers of
-/// their lines.
+/// What the lines so far say: how many premises still need a proof, once the heading is there; the steps; and the
+/// numbers of their lines.
 #[derive(Drop)]
 pub(crate) struct Scan {
     pub owed: Option<u64>,

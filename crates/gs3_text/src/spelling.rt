@@ -1,3 +1,5 @@
+//! Symbols as a text spells them.
+
 ghost use Rattle.std.specs.Prelude.{◌≡◌, ◌≤◌, ◌&&◌, false, not, eqb, length, option_map};
 ghost use Rattle.std.specs.List.{prefix_len, list_all};
 ghost use Rattle.fol_core.specs.Spelling.{is_lower_word, is_word_byte};

@@ -1,7 +1,10 @@
+//! A step's line.
+
 ghost use Rattle.std.specs.Prelude.{◌≡◌, ◌^◌, codes};
 ghost use Rattle.fol_core.specs.View.{term_of};
 ghost use Rattle.gs3_rules.specs.Apply.{rule_of};
-ghost use Rattle.gs3_text.specs.Reading.{Gives, strip, whole, number_at, place_at, term_at, close_of, delta_of, gamma_of, step_of};
+ghost use Rattle.gs3_text.specs.Reading.{Gives, strip, whole, number_at, place_at, term_at};
+ghost use Rattle.gs3_text.specs.Reading.{close_of, delta_of, gamma_of, step_of};
 
 use crate::fault::Fault;
 use crate::term::term_at;

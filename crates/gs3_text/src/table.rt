@@ -1,3 +1,5 @@
+//! What is known of the symbols.
+
 ghost use Rattle.fol_core.specs.Symbol.{AreSymbols};
 
 use fol_core::Symbols;

@@ -1,3 +1,5 @@
+//! Terms in a text.
+
 ghost use Rattle.std.specs.Prelude.{◌≡◌, ◌<◌, ◌^◌, suc, length, map, IfOk};
 ghost use Rattle.fol_core.specs.View.{term_of};
 ghost use Rattle.gs3_text.specs.Reading.{Gives, term_at, arguments_at, arguments_from, application_at};
@@ -5,7 +7,7 @@ ghost use Rattle.gs3_text.specs.Reading.{Gives, term_at, arguments_at, arguments
 use crate::fault::Fault;
 use crate::spelling::{function_of, spelling_at};
 use crate::word::{front, number_at};
-use containers::Items;
+use containers::{Items, Shared};
 use fol_core::{Symbols, Term, Terms};
 use std::alloc::Global;
 
@@ -48,7 +50,7 @@ fn application_at<'a>(
 {
     let (spelling, rest) = spelling_at(bytes)?;
     let (args, rest) = arguments_at(alloc, symbols, depth, rest)?;
-    let function = function_of(alloc, symbols, &spelling, args.len())?;
+    let function = function_of(alloc, symbols, &spelling, args.get().len())?;
     Ok((Term::App(function, args), rest))
 }
 
@@ -66,7 +68,7 @@ fn arguments_at<'a>(
 {
     match bytes {
         [b'(', rest @ ..] => arguments_from(alloc, symbols, depth, rest),
-        _ => Ok((Items::new(alloc), bytes)),
+        _ => Ok((Shared::new(alloc, Items::new(alloc))?, bytes)),
     }
 }
 
@@ -95,7 +97,7 @@ fn arguments_from<'a>(
         if mark == b',' {
             rest = more;
         } else if mark == b')' {
-            return Ok((args, more));
+            return Ok((Shared::new(alloc, args)?, more));
         } else {
             return Err(Fault::Malformed);
         }

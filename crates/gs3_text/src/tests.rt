@@ -1,11 +1,13 @@
+//! Texts that are read and written.
+
 use crate::{TextError, read_tree, write_tree};
 use fol_core::Symbols;
 use std::alloc::AllocError;
 use std::test::*;
 
 /// The output for the axioms `p` and `p=>q` and the conjecture `q`.
-const CHAIN: &[u8] =
-    b"% SZS status Theorem for -\n% depth 1\n% engine plain\n% SZS output start Proof for -\ngs3 1\nbeta 1\nclose 0 3\nclose 3 2\n% SZS output end Proof for -\n";
+const CHAIN: &[u8] = b"% SZS status Theorem for -\n% depth 1\n% engine plain\n\
+      % SZS output start Proof for -\ngs3 1\nbeta 1\nclose 0 3\nclose 3 2\n% SZS output end Proof for -\n";
 
 /// A text, and the line that cannot go on; 0 for a text of a proof.
 const TEXTS: [(&[u8], u64); 27] = [

@@ -1,3 +1,5 @@
+//! A proof as its steps.
+
 ghost use Rattle.std.specs.Prelude.{◌≡◌};
 ghost use Rattle.gs3_rules.specs.Refutes.{IsWhole};
 ghost use Rattle.gs3_rules.specs.Apply.{rules_of};

@@ -1,10 +1,10 @@
+//! Writing a proof text.
+
 ghost use Rattle.std.specs.Prelude.{◌≡◌, ◌++◌, ◌∷◌, [], codes, decimal, OnOk, IfOk};
 ghost use Rattle.std.specs.List.{AllByRecursion};
-ghost use Rattle.gs3_rules.specs.Apply.{rule_of};
-ghost use Rattle.gs3_rules.specs.Apply.{rules_of};
+ghost use Rattle.gs3_rules.specs.Apply.{rule_of, rules_of};
 ghost use Rattle.gs3_text.specs.ProofText.{line_of, proof_lines, text_of, IsSpellableTerm, HasSmallNumbers, ProofText};
-ghost use Rattle.gs3_rules.specs.Refutes.{ProofTree, preorder};
-ghost use Rattle.gs3_rules.specs.Refutes.{HasShape};
+ghost use Rattle.gs3_rules.specs.Refutes.{ProofTree, preorder, HasShape};
 
 use crate::table;
 use crate::tree::Tree;

@@ -26,14 +26,14 @@ refuted_closing es r step = (by r no_premises, refl, ([], step, tt))
 
 pub refuted_alpha : (es ps : List PlainFormula) (i : ℕ) (later : List Rule) → alpha_at es i ≡ Some ps → RefutedBy (es ++ ps) later → RefutedBy es (rules.alpha i ∷ later)
 refuted_alpha es ps i later here h =
-    (by (rules.alpha i) (premise h.0 no_premises), ap (λ rs. rules.alpha i ∷ rs) (append-nil (preorder h.0) ∙ h.1), (ps ∷ [], (ps, here, refl), (h.2, tt)))
+    (by (rules.alpha i) (premise h.0 no_premises), ap (λ rs. rules.alpha i ∷ rs) (append-nil (preorder h.0) ∙ h.1), ((es ++ ps) ∷ [], (ps, here, refl), (h.2, tt)))
 
 pub refuted_beta : (es ls rs : List PlainFormula) (i : ℕ) (left right : List Rule) → beta_at es i ≡ Some (ls, rs) → RefutedBy (es ++ ls) left → RefutedBy (es ++ rs) right
     → RefutedBy es (rules.beta i ∷ left ++ right)
 refuted_beta es ls rs i left right here h k = (
   by (rules.beta i) (premise h.0 (premise k.0 no_premises)),
   ap (λ xs. rules.beta i ∷ xs) (ap (λ xs. preorder h.0 ++ xs) (append-nil (preorder k.0)) ∙ ap (λ xs. xs ++ preorder k.0) h.1 ∙ ap (λ xs. left ++ xs) k.1),
-  (ls ∷ rs ∷ [], (ls, rs, here, refl), (h.2, (k.2, tt))),
+  ((es ++ ls) ∷ (es ++ rs) ∷ [], (ls, rs, here, refl), (h.2, (k.2, tt))),
 )
 
 -- parts of propositional formulas are propositional
@@ -134,10 +134,10 @@ pub closing_is : (es : List PlainFormula) (r : Rule) → rules.Step es r [] → 
 closing_is es (rules.close i j) h = closing_pair (slice_get es i) (slice_get es j) es i j refl refl h.0
 closing_is es (rules.false_at i) h = inr (inl (i, h.0))
 closing_is es (rules.not_true i) h = inr (inr (i, h.0))
-closing_is es (rules.alpha i) h = absurd (not_empty h.0 [] h.2)
-closing_is es (rules.beta i) h = absurd (not_empty h.0 (h.1 ∷ []) h.3)
-closing_is es (rules.delta i n) h = absurd (not_empty (h.0 ∷ []) [] h.3)
-closing_is es (rules.gamma i t) h = absurd (not_empty (h.0 ∷ []) [] h.3)
+closing_is es (rules.alpha i) h = absurd (not_empty (es ++ h.0) [] h.2)
+closing_is es (rules.beta i) h = absurd (not_empty (es ++ h.0) ((es ++ h.1) ∷ []) h.3)
+closing_is es (rules.delta i n) h = absurd (not_empty (es ++ h.0 ∷ []) [] h.3)
+closing_is es (rules.gamma i t) h = absurd (not_empty (es ++ h.0 ∷ []) [] h.3)
 
 pub passes_refl : (es : List PlainFormula) (a b n : ℕ) (old : List Rule) → Passes es a b n old es a b n old
 passes_refl es a b n old = record {

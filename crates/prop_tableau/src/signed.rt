@@ -7,7 +7,7 @@ ghost use Rattle.gs3_rules.specs.Rules.{alpha_parts, beta_parts};
 ghost use Rattle.prop_tableau.specs.Views.{signed_of, parts_of};
 ghost use Rattle.prop_tableau.specs.Items.{is_no_terms, literal_of};
 
-use containers::Boxed;
+use containers::Shared;
 use fol_core::{Formula, Terms};
 
 /// A formula or its negation.
@@ -24,7 +24,7 @@ pub(crate) enum Parts<'a> {
     Two(Signed<'a>, Signed<'a>),
 }
 
-fn plain(part: &Boxed<Formula>) -> Signed<'_>
+fn plain(part: &Shared<Formula>) -> Signed<'_>
     ensures { signed_of result ≡ formula_of part.now }
 {
     Signed {
@@ -33,7 +33,7 @@ fn plain(part: &Boxed<Formula>) -> Signed<'_>
     }
 }
 
-fn negated(part: &Boxed<Formula>) -> Signed<'_>
+fn negated(part: &Shared<Formula>) -> Signed<'_>
     ensures { signed_of result ≡ not (formula_of part.now) }
 {
     Signed {
@@ -135,7 +135,7 @@ pub(crate) enum Literal {
 fn has_no_arguments(args: &Terms) -> bool
     ensures { result ≡ is_no_terms (terms_of args.now) }
 {
-    args.is_empty()
+    args.get().is_empty()
 }
 
 fn negated_literal(formula: &Formula) -> Option<Literal>

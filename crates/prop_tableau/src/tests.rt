@@ -1,20 +1,23 @@
+//! Searches on small lists.
+
 use crate::{Found, OpenAnswer, find_proof};
-use containers::{Boxed, Items};
+use containers::{Items, Shared};
 use fol_core::{Formula, Formulas};
 use gs3_rules::Step;
 use std::alloc::{AllocError, Global};
 
-fn atom(alloc: Global, symbol: u32) -> Formula {
-    Formula::Atom(symbol, Items::new(alloc))
+fn atom(alloc: Global, symbol: u32) -> Result<Formula, AllocError> {
+    let none = Shared::new(alloc, Items::new(alloc))?;
+    Ok(Formula::Atom(symbol, none))
 }
 
 /// `p`, `p => q` and `~` of the atom with this symbol.
 fn start(alloc: Global, last: u32) -> Result<Formulas, AllocError> {
-    let left = Boxed::new(alloc, atom(alloc, 0))?;
-    let right = Boxed::new(alloc, atom(alloc, 1))?;
-    let negated = Boxed::new(alloc, atom(alloc, last))?;
+    let left = Shared::new(alloc, atom(alloc, 0)?)?;
+    let right = Shared::new(alloc, atom(alloc, 1)?)?;
+    let negated = Shared::new(alloc, atom(alloc, last)?)?;
     let mut list = Items::new(alloc);
-    list.push(atom(alloc, 0))?;
+    list.push(atom(alloc, 0)?)?;
     list.push(Formula::Imp(left, right))?;
     list.push(Formula::Not(negated))?;
     Ok(list)

@@ -6,6 +6,6 @@ use Rattle.goeland_run.proofs.searched.+is_searched.Given as goal
 
 abbrev pub invariant-loop-at : goal.invariant-loop-at
 invariant-loop-at l = record {
-  smaller : size-Formula l.at ≤ size-Formula l.initial.at;
+  smaller : size-Formula _ l.at ≤ size-Formula _ l.initial.at;
   alike : is_searched (formula_of l.at) ≡ is_searched (formula_of l.initial.at);
 }

@@ -2,7 +2,7 @@ use Rattle.std.proofs.Common.{◌≡◌, ◌+◌, ◌∷◌, [], drop, rules, ap
 use Rattle.std.specs.Prelude.{IfSome}
 use Rattle.std.proofs.lemmas.List.{drop_all}
 use Rattle.gs3_rules.specs.Apply.{rule_of, rules_of}
-use Rattle.gs3_kernel.specs.Shared.{LeftIsSound}
+use Rattle.gs3_kernel.specs.OpenLists.{LeftIsSound}
 use Rattle.gs3_kernel.specs.declared.checking.CheckError.TheVariants.{Wrong}
 use Rattle.gs3_kernel.proofs.Turns.{refused, accepted, too_many, too_few, fails_here, goes_on, all_done, rules_from}
 use Rattle.gs3_kernel.proofs.checking.check_steps.Goals as goal

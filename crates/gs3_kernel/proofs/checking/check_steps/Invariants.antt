@@ -1,7 +1,7 @@
 use Rattle.std.proofs.Common.{drop, [], ◌∷◌}
 use Rattle.fol_core.specs.View.{formulas_of}
 use Rattle.gs3_rules.specs.Apply.{rules_of}
-use Rattle.gs3_kernel.specs.Shared.{left_of, LeftIsSound}
+use Rattle.gs3_kernel.specs.OpenLists.{left_of, LeftIsSound}
 use Rattle.gs3_kernel.proofs.Turns.{Reaches}
 use Rattle.gs3_kernel.proofs.checking.check_steps.Given as goal
 

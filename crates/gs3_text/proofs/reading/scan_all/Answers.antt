@@ -42,5 +42,5 @@ returns-then-not-is_whole-clause-refused c =
 pub returns-clause-read : goal.returns-clause-read
 returns-clause-read c =
     let e = c.if-not-is_empty.ensures in let w = c.if-not-is_whole.ensures in
-    read_all c.args.symbols.now.functions c.args.bytes.now c.lines.rest.now c.lines.number (scan_of c.lines.scan) c.lines.invariant
+    read_all c.args.symbols.now.functions c.keeps_symbols.ensures c.args.bytes.now c.lines.rest.now c.lines.number (scan_of c.lines.scan) c.lines.invariant
     (nil_from_length c.lines.rest.now (eqb-true (length c.lines.rest.now) 0 (sym e))) (w.0 refl)

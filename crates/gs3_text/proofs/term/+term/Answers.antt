@@ -58,10 +58,11 @@ arguments_from-arguments-preserved t c =
 
 pub arguments_from-returns-then-mark-eq41 : goal.arguments_from-returns-then-mark-eq41
 arguments_from-returns-then-mark-eq41 t c =
-    let read = c.in-Ok.ensures in let text = c.in-Some.ensures in let pushed = c.in_ok-push.ensures.ok in
+    let read = c.in-Ok.ensures in let text = c.in-Some.ensures in let pushed = c.in_ok-push.ensures.ok in let shared = c.in_ok-new.ensures in
     let r = term_at c.args.symbols.now.functions c.args.depth in let u = term_of c.in-Ok.read.0 in let more = c.in-Some.more.now in
     last_on r (term_shorter c.args.symbols.now.functions c.args.depth) c.arguments.rest.now more (map term_of c.arguments.args) u _ c.arguments.invariant (read ∙ ap (λ after. Some (u, after)) text ∙ ap (λ mark. Some (u, mark ∷ more)) c.if-mark-eq41.true)
     ∙ ap (λ us. Some (us, more)) (sym (ap (map term_of) pushed ∙ map_push term_of c.arguments.args c.in-Ok.read.0))
+    ∙ ap (λ us. Some (map term_of us, more)) (sym shared)
 
 pub arguments_from-returns-else-mark-eq41 : goal.arguments_from-returns-else-mark-eq41
 arguments_from-returns-else-mark-eq41 t c =
