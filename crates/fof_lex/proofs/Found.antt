@@ -1,6 +1,7 @@
 -- What is read in front of a text stands there.
 use Rattle.std.proofs.Common.{◌≡◌, ◌≢◌, ℕ, Bool, true, false, ◌&&◌, ◌||◌, cond, eqb, List, [], ◌∷◌, ◌++◌, Option, Some, None, refl, ap, sym, ◌∙◌, subst, append_assoc}
-use Rattle.std.proofs.lemmas.Bool.{false≢true, eqb-true, cond_both, cond-true, and_parts}
+use Rattle.std.specs.List.{list_all}
+use Rattle.std.proofs.lemmas.Bool.{false≢true, eqb-true, cond_both, cond-true, and_from, and_parts}
 use Rattle.fof_lex.specs.Bytes.{is_blank, is_lower, is_upper, is_digit, is_word_byte, is_in_line}
 use Rattle.fof_lex.specs.Tokens.{IsLowerWord, lower_word, upper_word, IsDollarWord, one_dollar, two_dollars, quoted, distinct_object, IsSign, no_sign, plus, minus, number, mark_text, IsTextOf, IsGap, blank, line_comment, block_comment}
 use Rattle.fof_lex.specs.declared.token.Connective.TheVariants.{Equivalent, NotEquivalent, Implies, ImpliedBy, NotAnd, NotOr, NotEqual}
@@ -47,7 +48,7 @@ passes_not_slash p c cs h k more e = other_first c 47 cs (42 ∷ more) (λ same.
 lower_found : (c : ℕ) (cs : List ℕ) → is_lower c ≡ true → IsFound (c ∷ cs) (token LowerWord (after is_word_byte cs))
 lower_found c cs h =
     let s = after_stands is_word_byte cs in
-    record { front = c ∷ s.front; cut = ap (λ bs. c ∷ bs) s.cut; is = lower_word c s.front h s.is; no_comment = passes_not_slash is_lower c cs refl h }
+    record { front = c ∷ s.front; cut = ap (λ bs. c ∷ bs) s.cut; is = lower_word c s.front (and_from (is_lower c) (list_all is_word_byte s.front) h s.is); no_comment = passes_not_slash is_lower c cs refl h }
 
 upper_found : (c : ℕ) (cs : List ℕ) → is_upper c ≡ true → IsFound (c ∷ cs) (token UpperWord (after is_word_byte cs))
 upper_found c cs h =
@@ -60,7 +61,7 @@ word_stands : (text : List ℕ) → begins_with is_lower text ≡ true → Stand
 word_stands [] h = absurd (false≢true h)
 word_stands (c ∷ cs) h =
     let s = after_stands is_word_byte cs in
-    let here : Stands IsLowerWord (c ∷ cs) (after is_word_byte cs) = record { front = c ∷ s.front; cut = ap (λ bs. c ∷ bs) s.cut; is = lower_word c s.front h s.is } in
+    let here : Stands IsLowerWord (c ∷ cs) (after is_word_byte cs) = record { front = c ∷ s.front; cut = ap (λ bs. c ∷ bs) s.cut; is = lower_word c s.front (and_from (is_lower c) (list_all is_word_byte s.front) h s.is) } in
     subst (Stands IsLowerWord (c ∷ cs)) (sym (cond-true (is_word_byte c) (after is_word_byte cs) (c ∷ cs) (lower_in_word c h))) here where
       lower_in_word : (c : ℕ) → is_lower c ≡ true → is_word_byte c ≡ true
       lower_in_word c h = ap (λ b. ((b || is_upper c) || is_digit c) || eqb c 95) h

@@ -82,7 +82,9 @@ digit_first c cs h =
     ∙ cond-false (is_upper c) (token UpperWord (after is_word_byte cs)) _ (digit_no_upper c h) ∙ cond-true (is_digit c) (token Number (after_number (c ∷ cs))) _ h
 
 lower_covers : (front rest : List ℕ) → IsLowerWord front → Covers LowerWord rest (piece_at (front ++ rest))
-lower_covers front rest (lower_word c cs h k) = read_covers LowerWord rest _ _ (lower_first c (cs ++ rest) h) (run_reaches is_word_byte cs rest k)
+lower_covers front rest (lower_word c cs w) =
+    let p = and_parts (is_lower c) (list_all is_word_byte cs) w in
+    read_covers LowerWord rest _ _ (lower_first c (cs ++ rest) p.0) (run_reaches is_word_byte cs rest p.1)
 
 upper_covers : (front rest : List ℕ) → IsUpperWord front → Covers UpperWord rest (piece_at (front ++ rest))
 upper_covers front rest (upper_word c cs h k) = read_covers UpperWord rest _ _ (upper_first c (cs ++ rest) h) (run_reaches is_word_byte cs rest k)
@@ -90,13 +92,15 @@ upper_covers front rest (upper_word c cs h k) = read_covers UpperWord rest _ _ (
 -- Dollar words
 
 dollar_word_covers : (w rest : List ℕ) → IsLowerWord w → Covers DollarWord rest (dollar_word (w ++ rest))
-dollar_word_covers w rest (lower_word c cs h k) =
-    read_covers DollarWord rest _ _ (cond-true (is_lower c) (token DollarWord (after is_word_byte (c ∷ cs ++ rest))) nothing h)
-    (run_reaches is_word_byte (c ∷ cs) rest (and_from (is_word_byte c) (list_all is_word_byte cs) (lower_in_word c h) k))
+dollar_word_covers w rest (lower_word c cs v) =
+    let p = and_parts (is_lower c) (list_all is_word_byte cs) v in
+    read_covers DollarWord rest _ _ (cond-true (is_lower c) (token DollarWord (after is_word_byte (c ∷ cs ++ rest))) nothing p.0)
+    (run_reaches is_word_byte (c ∷ cs) rest (and_from (is_word_byte c) (list_all is_word_byte cs) (lower_in_word c p.0) p.1))
 
 one_dollar_is : (w rest : List ℕ) → IsLowerWord w → dollar_piece (w ++ rest) ≡ dollar_word (w ++ rest)
 unfolding dollar_piece
-one_dollar_is w rest (lower_word c cs h k) = cond-false (eqb 36 c) (dollar_word (cs ++ rest)) (dollar_word (c ∷ cs ++ rest)) (lower_no_dollar c h)
+one_dollar_is w rest (lower_word c cs v) =
+    let p = and_parts (is_lower c) (list_all is_word_byte cs) v in cond-false (eqb 36 c) (dollar_word (cs ++ rest)) (dollar_word (c ∷ cs ++ rest)) (lower_no_dollar c p.0)
 
 dollar_covers : (front rest : List ℕ) → IsDollarWord front → Covers DollarWord rest (piece_at (front ++ rest))
 unfolding piece_at symbol_piece dollar_piece

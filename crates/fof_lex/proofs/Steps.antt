@@ -135,7 +135,7 @@ mark_length Backslash = lit< tt
 mark_length Hash = lit< tt
 
 pub text_length : (kind : Kind) (cs : List ℕ) → IsTextOf kind cs → 0 < length cs
-text_length LowerWord cs (lower_word c more h k) = omega arith
+text_length LowerWord cs (lower_word c more h) = omega arith
 text_length UpperWord cs (upper_word c more h k) = omega arith
 text_length Quoted cs (quoted body h b) = omega arith
 text_length DistinctObject cs (distinct_object body b) = omega arith

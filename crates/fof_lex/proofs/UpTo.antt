@@ -3,8 +3,8 @@ use Rattle.std.proofs.Common.{◌≡◌, ◌≢◌, ℕ, ◌+◌, ◌-◌, ◌<�
 use Rattle.std.specs.List.{slice_range}
 use Rattle.std.proofs.Math.Seq.{take-append_seam, drop-append_seam}
 use Rattle.fof_lex.specs.Tokens.{IsTextOf, Lexes, ends, skips, takes, LexFails, fails, after_gap, after_token, LexesUpTo, here, behind_gap, behind_token, AreIn}
-use Rattle.fof_lex.specs.Lexer.{Unread, IsEnd, place, IsRefusalFrom}
-use Rattle.fof_lex.specs.Refusal.{IsRefusal}
+use Rattle.fof_lex.specs.Lexer.{Unread, IsEnd}
+use Rattle.fof_lex.specs.Refusal.{IsRefusalAt}
 use Rattle.fof_lex.specs.declared.text.LexError.{LexError}
 use Rattle.fof_lex.specs.declared.text.LexError.TheVariants.{Bad, OutOfMemory}
 use Rattle.fof_lex.specs.declared.token.Kind.{Kind}
@@ -40,13 +40,9 @@ pub upto-ends : (at : ℕ) (text : List ℕ) (ts : List Token) (low : ℕ) (rest
 upto-ends at text ts low rest up k = subst (Lexes at text) (append-nil ts) (upto-lexes at text ts low rest [] up k)
 
 -- what is refused behind them is refused before them
-pub refused_before : (u v : Unread) (ts : List Token) (e : LexError) → LexesUpTo (place u) u.rest ts (place v) v.rest → IsRefusalFrom v e → IsRefusalFrom u e
-refused_before u v ts (Bad offset) up k = upto-fails (place u) u.rest ts (place v) v.rest offset up k
-refused_before u v ts OutOfMemory up k = k
-
-pub refused_whole : (bytes : List ℕ) (v : Unread) (ts : List Token) (e : LexError) → LexesUpTo 0 bytes ts (place v) v.rest → IsRefusalFrom v e → IsRefusal bytes e
-refused_whole bytes v ts (Bad offset) up k = upto-fails 0 bytes ts (place v) v.rest offset up k
-refused_whole bytes v ts OutOfMemory up k = absurd k
+pub refused_behind : (at : ℕ) (text : List ℕ) (ts : List Token) (low : ℕ) (rest : List ℕ) (e : LexError) → LexesUpTo at text ts low rest → IsRefusalAt low rest e → IsRefusalAt at text e
+refused_behind at text ts low rest (Bad offset) up k = upto-fails at text ts low rest offset up k
+refused_behind at text ts low rest OutOfMemory up k = tt
 
 pub at_start : (bytes : List ℕ) → LexesUpTo 0 bytes [] (length bytes - length bytes) bytes
 at_start bytes = let none : 0 ≡ length bytes - length bytes = omega arith in subst (λ n. LexesUpTo 0 bytes [] n bytes) none (here 0 bytes)

@@ -1,8 +1,6 @@
 -- Kinds of bytes.
-use Rattle.std.specs.Prelude.{ℕ, Bool, not, ◌&&◌, ◌||◌, eqb, nat_le}
-
-abbrev pub is_between : ℕ → ℕ → ℕ → Bool
-is_between low high c = nat_le low c && nat_le c high
+use Rattle.std.specs.Prelude.{ℕ, Bool, not, ◌&&◌, ◌||◌, eqb}
+pub use Rattle.fol_core.specs.Spelling.{is_between, is_word_byte}
 
 -- tab, line feed, vertical tab, form feed, carriage return and space
 abbrev pub is_blank : ℕ → Bool
@@ -16,10 +14,6 @@ is_upper c = is_between 65 90 c
 
 abbrev pub is_digit : ℕ → Bool
 is_digit c = is_between 48 57 c
-
--- a letter, a digit or an underscore
-abbrev pub is_word_byte : ℕ → Bool
-is_word_byte c = is_lower c || is_upper c || is_digit c || eqb c 95
 
 -- a byte that is no line feed
 abbrev pub is_in_line : ℕ → Bool

@@ -1,8 +1,8 @@
 -- What a reader of tokens has read of a text, and what is left.
-use Rattle.std.specs.Prelude.{◌≡◌, ℕ, ◌-◌, List, ◌++◌, length}
-use Rattle.fof_lex.specs.Tokens.{LexFails}
+use Rattle.std.specs.Prelude.{◌≡◌, ◌≢◌, ℕ, ◌-◌, List, ◌++◌, length}
+use Rattle.fof_lex.specs.Refusal.{IsRefusalAt}
 use Rattle.fof_lex.specs.declared.text.LexError.{LexError}
-use Rattle.fof_lex.specs.declared.text.LexError.TheVariants.{Bad, OutOfMemory}
+use Rattle.fof_lex.specs.declared.text.LexError.TheVariants.{OutOfMemory}
 
 -- a text, and what is not read of it yet
 pub record Unread : Type 0 where
@@ -19,5 +19,4 @@ place u = length u.text - length u.rest
 
 -- What is left is refused so. Memory is never wanting.
 abbrev pub IsRefusalFrom : Unread → LexError → Type 0
-IsRefusalFrom u (Bad offset) = LexFails (place u) u.rest offset
-IsRefusalFrom u OutOfMemory = ⊥
+IsRefusalFrom u e = (e ≢ OutOfMemory) × IsRefusalAt (place u) u.rest e

@@ -1,11 +1,16 @@
 -- Reading from left to right: what stands in front of a text, and what follows it.
 use Rattle.std.specs.Prelude.{ℕ, Bool, true, false, ◌&&◌, ◌||◌, eqb, if◌then◌else◌, List, [], ◌∷◌, Option, Some, None}
 use Rattle.fof_lex.specs.Bytes.{is_blank, is_lower, is_upper, is_digit, is_word_byte, is_in_line, is_escaped, is_plain}
-use Rattle.fof_lex.specs.declared.token.Connective.TheVariants.{Equivalent, NotEquivalent, Implies, ImpliedBy, NotAnd, NotOr, NotEqual}
+use Rattle.fof_lex.specs.declared.token.Connective.TheVariants.{Equivalent, NotEquivalent, Implies, ImpliedBy, NotAnd}
+use Rattle.fof_lex.specs.declared.token.Connective.TheVariants.{NotOr, NotEqual}
 use Rattle.fof_lex.specs.declared.token.Mark.{Mark}
-use Rattle.fof_lex.specs.declared.token.Mark.TheVariants.{OpenParenthesis, CloseParenthesis, OpenBracket, CloseBracket, OpenBrace, CloseBrace, Comma, Stop, Colon, Semicolon, Exclamation, Question, Tilde, Ampersand, Bar, Equals, Less, Greater, At, Caret, Plus, Minus, Star, Slash, Backslash, Hash}
+use Rattle.fof_lex.specs.declared.token.Mark.TheVariants.{OpenParenthesis, CloseParenthesis, OpenBracket, CloseBracket}
+use Rattle.fof_lex.specs.declared.token.Mark.TheVariants.{OpenBrace, CloseBrace, Comma, Stop, Colon, Semicolon}
+use Rattle.fof_lex.specs.declared.token.Mark.TheVariants.{Exclamation, Question, Tilde, Ampersand, Bar, Equals, Less}
+use Rattle.fof_lex.specs.declared.token.Mark.TheVariants.{Greater, At, Caret, Plus, Minus, Star, Slash, Backslash, Hash}
 use Rattle.fof_lex.specs.declared.token.Kind.{Kind}
-use Rattle.fof_lex.specs.declared.token.Kind.TheVariants.{LowerWord, UpperWord, Quoted, DistinctObject, DollarWord, Number, Connective as of_connective, Mark as of_mark}
+use Rattle.fof_lex.specs.declared.token.Kind.TheVariants.{LowerWord, UpperWord, Quoted, DistinctObject, DollarWord}
+use Rattle.fof_lex.specs.declared.token.Kind.TheVariants.{Number, Connective as of_connective, Mark as of_mark}
 
 -- a blank or a comment, or a token, with what follows it; or nothing that can be read
 pub data Piece : Type 0 where
@@ -39,7 +44,8 @@ gap_before (Some rest) = gap rest
 
 -- the piece of a `/` and the bytes behind it
 unfoldable pub slash_piece : List ℕ → Piece
-slash_piece cs = if begins_with (eqb 42) cs then gap_before (after_close (without_first cs)) else token (of_mark Slash) cs
+slash_piece cs =
+    if begins_with (eqb 42) cs then gap_before (after_close (without_first cs)) else token (of_mark Slash) cs
 
 -- Quotes
 
@@ -49,7 +55,8 @@ after_quote quote escape [] = None
 after_quote quote true (c ∷ cs) = if is_escaped quote c then after_quote quote false cs else None
 after_quote quote false (c ∷ cs) =
     if eqb c quote then Some cs
-    else (if eqb c 92 then after_quote quote true cs else (if is_plain quote c then after_quote quote false cs else None))
+    else (if eqb c 92 then after_quote quote true cs
+    else (if is_plain quote c then after_quote quote false cs else None))
 
 abbrev pub token_before : Kind → Option (List ℕ) → Piece
 token_before kind None = nothing
@@ -92,7 +99,8 @@ after_exponent cs = if begins_with is_exponent cs then after_digits_or cs (witho
 
 -- what follows a number, where its sign and its first digits are read
 abbrev pub after_tail : List ℕ → List ℕ
-after_tail cs = if begins_with (eqb 47) cs then after_digits_or cs (without_first cs) else after_exponent (after_point cs)
+after_tail cs =
+    if begins_with (eqb 47) cs then after_digits_or cs (without_first cs) else after_exponent (after_point cs)
 
 -- what follows a number, where its sign is read
 unfoldable pub after_number : List ℕ → List ℕ
@@ -106,9 +114,11 @@ sign_piece mark cs = if begins_with is_digit cs then token Number (after_number 
 
 unfoldable pub less_piece : List ℕ → Piece
 less_piece cs =
-    if begins_with (eqb 61) cs then (if begins_with (eqb 62) (without_first cs) then token (of_connective Equivalent) (without_first (without_first cs))
+    if begins_with (eqb 61) cs then
+    (if begins_with (eqb 62) (without_first cs) then token (of_connective Equivalent) (without_first (without_first cs))
     else token (of_connective ImpliedBy) (without_first cs))
-    else (if begins_with (eqb 126) cs && begins_with (eqb 62) (without_first cs) then token (of_connective NotEquivalent) (without_first (without_first cs))
+    else (if begins_with (eqb 126) cs && begins_with (eqb 62) (without_first cs) then
+    token (of_connective NotEquivalent) (without_first (without_first cs))
     else token (of_mark Less) cs)
 
 unfoldable pub tilde_piece : List ℕ → Piece
@@ -117,11 +127,13 @@ tilde_piece cs =
     else (if begins_with (eqb 124) cs then token (of_connective NotOr) (without_first cs) else token (of_mark Tilde) cs)
 
 unfoldable pub equals_piece : List ℕ → Piece
-equals_piece cs = if begins_with (eqb 62) cs then token (of_connective Implies) (without_first cs) else token (of_mark Equals) cs
+equals_piece cs =
+    if begins_with (eqb 62) cs then token (of_connective Implies) (without_first cs) else token (of_mark Equals) cs
 
 unfoldable pub exclamation_piece : List ℕ → Piece
 exclamation_piece cs =
-    if begins_with (eqb 61) cs then token (of_connective NotEqual) (without_first cs) else token (of_mark Exclamation) cs
+    if begins_with (eqb 61) cs then token (of_connective NotEqual) (without_first cs)
+    else token (of_mark Exclamation) cs
 
 -- the mark of a byte with which no longer token begins
 abbrev pub single_mark : ℕ → Option Mark

@@ -1,13 +1,19 @@
 -- The tokens of a text.
 use Rattle.std.specs.Prelude.{◌≡◌, ◌≢◌, ℕ, ◌+◌, ◌<◌, ◌≤◌, IsTrue, List, [], ◌∷◌, ◌++◌, length, codes, ◌⊎◌}
 use Rattle.std.specs.List.{list_all, slice_range}
-use Rattle.fof_lex.specs.Bytes.{is_blank, is_lower, is_upper, is_digit, is_word_byte, is_in_line, is_escaped, is_plain}
+use Rattle.fol_core.specs.Spelling.{is_lower_word}
+use Rattle.fof_lex.specs.Bytes.{is_blank, is_upper, is_digit, is_word_byte, is_in_line, is_escaped, is_plain}
 use Rattle.fof_lex.specs.declared.token.Connective.{Connective}
-use Rattle.fof_lex.specs.declared.token.Connective.TheVariants.{Equivalent, NotEquivalent, Implies, ImpliedBy, NotAnd, NotOr, NotEqual}
+use Rattle.fof_lex.specs.declared.token.Connective.TheVariants.{Equivalent, NotEquivalent, Implies, ImpliedBy, NotAnd}
+use Rattle.fof_lex.specs.declared.token.Connective.TheVariants.{NotOr, NotEqual}
 use Rattle.fof_lex.specs.declared.token.Mark.{Mark}
-use Rattle.fof_lex.specs.declared.token.Mark.TheVariants.{OpenParenthesis, CloseParenthesis, OpenBracket, CloseBracket, OpenBrace, CloseBrace, Comma, Stop, Colon, Semicolon, Exclamation, Question, Tilde, Ampersand, Bar, Equals, Less, Greater, At, Caret, Plus, Minus, Star, Slash, Backslash, Hash}
+use Rattle.fof_lex.specs.declared.token.Mark.TheVariants.{OpenParenthesis, CloseParenthesis, OpenBracket, CloseBracket}
+use Rattle.fof_lex.specs.declared.token.Mark.TheVariants.{OpenBrace, CloseBrace, Comma, Stop, Colon, Semicolon}
+use Rattle.fof_lex.specs.declared.token.Mark.TheVariants.{Exclamation, Question, Tilde, Ampersand, Bar, Equals, Less}
+use Rattle.fof_lex.specs.declared.token.Mark.TheVariants.{Greater, At, Caret, Plus, Minus, Star, Slash, Backslash, Hash}
 use Rattle.fof_lex.specs.declared.token.Kind.{Kind}
-use Rattle.fof_lex.specs.declared.token.Kind.TheVariants.{LowerWord, UpperWord, Quoted, DistinctObject, DollarWord, Number, Connective as of_connective, Mark as of_mark}
+use Rattle.fof_lex.specs.declared.token.Kind.TheVariants.{LowerWord, UpperWord, Quoted, DistinctObject, DollarWord}
+use Rattle.fof_lex.specs.declared.token.Kind.TheVariants.{Number, Connective as of_connective, Mark as of_mark}
 use Rattle.fof_lex.specs.declared.token.Token.{Token}
 
 -- Words
@@ -15,9 +21,9 @@ use Rattle.fof_lex.specs.declared.token.Token.{Token}
 abbrev pub AreWordBytes : List ℕ → Type 0
 AreWordBytes cs = IsTrue (list_all is_word_byte cs)
 
--- a small letter, and then letters, digits and underscores
+-- a small letter, and then letters, digits and underscores, as a symbol is spelled that needs no quotes
 pub data IsLowerWord : List ℕ → Type 0 where
-  lower_word : (c : ℕ) (cs : List ℕ) → IsTrue (is_lower c) → AreWordBytes cs → IsLowerWord (c ∷ cs)
+  lower_word : (c : ℕ) (cs : List ℕ) → IsTrue (is_lower_word (c ∷ cs)) → IsLowerWord (c ∷ cs)
 
 -- a capital letter, and then letters, digits and underscores
 pub data IsUpperWord : List ℕ → Type 0 where
@@ -64,7 +70,8 @@ pub data IsPoint : List ℕ → Type 0 where
 -- `e` or `E` with digits, which may have a sign, or nothing
 pub data IsExponent : List ℕ → Type 0 where
   no_exponent : IsExponent []
-  exponent : (e : ℕ) (sign ds : List ℕ) → (e ≡ 101) ⊎ (e ≡ 69) → IsSign sign → AreDigits ds → IsExponent (e ∷ sign ++ ds)
+  exponent : (e : ℕ) (sign ds : List ℕ) → (e ≡ 101) ⊎ (e ≡ 69) → IsSign sign → AreDigits ds
+      → IsExponent (e ∷ sign ++ ds)
 
 -- what may follow a number's first digits: a denominator, or decimals and an exponent
 pub data IsNumberTail : List ℕ → Type 0 where
@@ -135,7 +142,8 @@ pub record Begins (kind : Kind) (front rest : List ℕ) : Type 0 where
 -- The token `front` is a longest one that begins the text.
 pub record IsLongest (kind : Kind) (front rest : List ℕ) : Type 0 where
   pub begins : Begins kind front rest
-  pub longest : (other : Kind) (more left : List ℕ) → front ++ rest ≡ more ++ left → Begins other more left → length more ≤ length front
+  pub longest : (other : Kind) (more left : List ℕ) → front ++ rest ≡ more ++ left → Begins other more left
+      → length more ≤ length front
 
 -- Blanks and comments
 
@@ -144,8 +152,8 @@ pub data IsLineEnd : List ℕ → Type 0 where
   at_feed : (more : List ℕ) → IsLineEnd (10 ∷ more)
   at_end : IsLineEnd []
 
--- A blank or a comment begins a text with `front`, where `rest` follows. A comment goes from `%` up to the end of the line, or
--- from `/*` to the first `*/` behind it.
+-- A blank or a comment begins a text with `front`, where `rest` follows. A comment goes from `%` up to the end of the
+-- line, or from `/*` to the first `*/` behind it.
 pub data IsGap : List ℕ → List ℕ → Type 0 where
   blank : (c : ℕ) (rest : List ℕ) → IsTrue (is_blank c) → IsGap (c ∷ []) rest
   line_comment : (body rest : List ℕ) → IsTrue (list_all is_in_line body) → IsLineEnd rest → IsGap (37 ∷ body) rest
@@ -154,22 +162,26 @@ pub data IsGap : List ℕ → List ℕ → Type 0 where
 
 -- Texts
 
--- The text, which begins at the offset `at` of the whole, is these tokens, with blanks and comments between them. At each place
--- the longest token is taken.
+-- The text, which begins at the offset `at` of the whole, is these tokens, with blanks and comments between them. At
+-- each place the longest token is taken.
 pub data Lexes : ℕ → List ℕ → List Token → Type 0 where
   ends : (at : ℕ) → Lexes at [] []
   skips : (at : ℕ) (text front rest : List ℕ) (tokens : List Token) → text ≡ front ++ rest → IsGap front rest
       → Lexes (at + length front) rest tokens → Lexes at text tokens
-  takes : (at : ℕ) (text front rest : List ℕ) (kind : Kind) (tokens : List Token) → text ≡ front ++ rest → IsLongest kind front rest
-      → Lexes (at + length front) rest tokens → Lexes at text (record { kind = kind; start = at; end = at + length front } ∷ tokens)
+  takes : (at : ℕ) (text front rest : List ℕ) (kind : Kind) (tokens : List Token) → text ≡ front ++ rest
+      → IsLongest kind front rest
+      → Lexes (at + length front) rest tokens
+      → Lexes at text (record { kind = kind; start = at; end = at + length front } ∷ tokens)
 
--- The text, which begins at the offset `at` of the whole, begins with these tokens, with blanks and comments before and between
--- them, each the longest. Behind them `rest` is left, which begins at the offset `low`.
+-- The text, which begins at the offset `at` of the whole, begins with these tokens, with blanks and comments before and
+-- between them, each the longest. Behind them `rest` is left, which begins at the offset `low`.
 pub data LexesUpTo : ℕ → List ℕ → List Token → ℕ → List ℕ → Type 0 where
   here : (at : ℕ) (text : List ℕ) → LexesUpTo at text [] at text
-  behind_gap : (at : ℕ) (text front left : List ℕ) (tokens : List Token) (low : ℕ) (rest : List ℕ) → text ≡ front ++ left → IsGap front left
+  behind_gap : (at : ℕ) (text front left : List ℕ) (tokens : List Token) (low : ℕ) (rest : List ℕ)
+      → text ≡ front ++ left → IsGap front left
       → LexesUpTo (at + length front) left tokens low rest → LexesUpTo at text tokens low rest
-  behind_token : (at : ℕ) (text front left : List ℕ) (kind : Kind) (tokens : List Token) (low : ℕ) (rest : List ℕ) → text ≡ front ++ left
+  behind_token : (at : ℕ) (text front left : List ℕ) (kind : Kind) (tokens : List Token) (low : ℕ) (rest : List ℕ)
+      → text ≡ front ++ left
       → IsLongest kind front left → LexesUpTo (at + length front) left tokens low rest
       → LexesUpTo at text (record { kind = kind; start = at; end = at + length front } ∷ tokens) low rest
 
@@ -179,18 +191,20 @@ pub record BeginsNothing (text : List ℕ) : Type 0 where
   pub no_gap : (front rest : List ℕ) → text ≡ front ++ rest → IsGap front rest → ⊥
   pub no_token : (kind : Kind) (front rest : List ℕ) → text ≡ front ++ rest → Begins kind front rest → ⊥
 
--- The text, which begins at the offset `at` of the whole, is tokens with blanks and comments between them up to the offset `bad`,
--- and there nothing begins.
+-- The text, which begins at the offset `at` of the whole, is tokens with blanks and comments between them up to the
+-- offset `bad`, and there nothing begins.
 pub data LexFails : ℕ → List ℕ → ℕ → Type 0 where
   fails : (at : ℕ) (text : List ℕ) → BeginsNothing text → LexFails at text at
   after_gap : (at : ℕ) (text front rest : List ℕ) (bad : ℕ) → text ≡ front ++ rest → IsGap front rest
       → LexFails (at + length front) rest bad → LexFails at text bad
-  after_token : (at : ℕ) (text front rest : List ℕ) (kind : Kind) (bad : ℕ) → text ≡ front ++ rest → IsLongest kind front rest
+  after_token : (at : ℕ) (text front rest : List ℕ) (kind : Kind) (bad : ℕ) → text ≡ front ++ rest
+      → IsLongest kind front rest
       → LexFails (at + length front) rest bad → LexFails at text bad
 
--- The tokens stand in the bytes one behind the other, the first of them at `from` or behind it, and the bytes from a token's
--- start to its end are a text of its kind.
+-- The tokens stand in the bytes one behind the other, the first of them at `from` or behind it, and the bytes from a
+-- token's start to its end are a text of its kind.
 abbrev pub AreIn : List ℕ → ℕ → List Token → Type 0
 AreIn bytes from [] = Unit {0}
 AreIn bytes from (t ∷ tokens) =
-    (from ≤ t.start) × (t.start < t.end) × (t.end ≤ length bytes) × IsTextOf t.kind (slice_range bytes t.start t.end) × AreIn bytes t.end tokens
+    (from ≤ t.start) × (t.start < t.end) × (t.end ≤ length bytes) × IsTextOf t.kind (slice_range bytes t.start t.end)
+    × AreIn bytes t.end tokens

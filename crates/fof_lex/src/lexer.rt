@@ -10,8 +10,8 @@ use crate::text::LexError;
 use crate::token::Token;
 use std::marker::Model;
 
-/// Reads the tokens of a text, the longest one at each place, one after the other. Blanks and comments may stand between
-/// tokens. It takes no memory.
+/// Reads the tokens of a text, the longest one at each place, one after the other. Blanks and comments may stand
+/// between tokens. It takes no memory.
 #[derive(Drop)]
 pub struct Lexer<'a> {
     bytes: &'a [u8],
@@ -44,8 +44,8 @@ impl<'a> Lexer<'a> {
         Lexer { bytes, rest: bytes }
     }
 
-    /// The next token, or None where blanks and comments alone are left. Where no token begins, the error is that of the
-    /// whole text. Nothing is read but where a token is found.
+    /// The next token, or None where blanks and comments alone are left. Where no token begins, the error is that of
+    /// the whole text. Nothing is read but where a token is found.
     pub fn next_token(&mut self) -> Result<Option<Token>, LexError>
         ensures text { self.new.text ≡ self.old.text }
         ensures token { IfOk result (λ found. MatchOption found
@@ -75,10 +75,14 @@ impl<'a> Lexer<'a> {
         Ok(None)
     }
 
-    /// Reads on to the end of the text.
+    /// Reads on to the end of the text. After an error it stands behind the tokens that were found, and each further
+    /// call refuses the text alike.
     pub fn read_on(&mut self) -> Result<(), LexError>
         ensures tokens { IfOk result (λ _. (tokens : List LexToken) × Lexes (place self.old) self.old.rest tokens) }
+        ensures at_end { IfOk result (λ _. Lexes (place self.new) self.new.rest []) }
+        ensures text { self.new.text ≡ self.old.text }
         ensures refused { IfErr result (IsRefusalFrom self.old) }
+        ensures stays { IfErr result (IsRefusalFrom self.new) }
     {
         'tokens: while let Some(_) = self.next_token()? {}
         Ok(())

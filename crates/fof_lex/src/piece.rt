@@ -1,7 +1,9 @@
 //! What stands in front of a text.
 
 ghost use Rattle.std.specs.Prelude.{◌≡◌};
-ghost use Rattle.fof_lex.specs.Reading.{slash_piece, sign_piece, quoted_piece, distinct_piece, dollar_word, dollar_piece, less_piece, tilde_piece, equals_piece, exclamation_piece, single_mark, mark_before, symbol_piece, piece_at};
+ghost use Rattle.fof_lex.specs.Reading.{slash_piece, sign_piece, quoted_piece, distinct_piece, dollar_word};
+ghost use Rattle.fof_lex.specs.Reading.{dollar_piece, less_piece, tilde_piece, equals_piece, exclamation_piece};
+ghost use Rattle.fof_lex.specs.Reading.{single_mark, mark_before, symbol_piece, piece_at};
 ghost use Rattle.fof_lex.specs.Views.{piece_of};
 
 use crate::runs::{after_close, after_line, after_number, after_quote, after_word};

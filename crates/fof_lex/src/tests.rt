@@ -1,3 +1,5 @@
+//! Texts with their tokens.
+
 use crate::text::{LexError, lex};
 use crate::token::{Connective, Kind, Mark, Token};
 use std::test::Fail;

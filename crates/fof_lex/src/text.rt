@@ -13,8 +13,8 @@ use thiserror::Error;
 /// Why a text has no tokens.
 #[derive(Clone, Copy, Debug, PartialEq, Eq, Error)]
 pub enum LexError {
-    /// The first offset, behind blanks, comments and tokens, at which no blank, comment or token begins. Offsets are counted
-    /// in bytes from the start of the text.
+    /// The first offset, behind blanks, comments and tokens, at which no blank, comment or token begins. Offsets are
+    /// counted in bytes from the start of the text.
     #[error("no token begins at offset {offset}")]
     Bad { offset: u64 },
     #[error("out of memory")]

@@ -1,3 +1,5 @@
+//! Tokens.
+
 use containers::Items;
 
 /// The connectives of two or three bytes.

@@ -13,7 +13,7 @@ use Rattle.fof_parse.specs.Token.{Placed}
 use Rattle.fof_parse.specs.Grammar.{Sentence, Statement}
 use Rattle.fof_parse.specs.Problem.{PlainProblem, Label, is_conjecture, functions_in, predicates_in, InternsAll, ArePlain, AreLabels, formulas_in, IsProblemOf}
 use Rattle.fof_parse.specs.Refusal.{IsGood, first_of, behind_first, AreGood, FirstBad, later}
-use Rattle.fof_parse.specs.Adding.{Places, Adds, Leads}
+use Rattle.fof_parse.specs.Reader.Adding.{Places, Adds, Leads}
 use Rattle.fof_parse.proofs.Effects.{interns_all_keeps, interns_all-append, plain_kept}
 
 are_plain-append : (table : SymbolTable) (ss ts : List Sentence) (bs cs : List PlainFormula) → ArePlain table ss bs → ArePlain table ts cs → ArePlain table (ss ++ ts) (bs ++ cs)

@@ -8,7 +8,7 @@ use Rattle.fof_parse.specs.Token.{Token, Placed, placed}
 use Rattle.fof_parse.specs.Grammar.{Statement}
 use Rattle.fof_parse.specs.Problem.{PlainProblem, is_conjecture}
 use Rattle.fof_parse.specs.Refusal.{late_fault, IsGood, IsBad, is_early, no_statement, is_late, first_of, behind_first, AreGood, FirstBad, here, later}
-use Rattle.fof_parse.specs.TheProblem.{IsProblemText, IsBadText, IsNoText}
+use Rattle.fof_parse.specs.TheProblem.{IsProblemText, IsGoodText, IsBadText, IsNoText}
 use Rattle.fof_parse.specs.Refused.{Refuses}
 use Rattle.fof_parse.proofs.Statements.{one_statement}
 
@@ -71,13 +71,6 @@ one_first {by = by} {k = k} (later had t ts s at j good a) b =
     (λ more. one_first a (subst (λ x. FirstBad (had || is_conjecture x) (behind_first (t ∷ ts)) by k) (one_statement (first_of (t ∷ ts)) more.0 s more.1.statement good.statement) more.2))
     (bad_at_first had t ts by k b)
 
-pub problem_not_bad : (bytes : List ℕ) (problem : PlainProblem) (at : ℕ) (k : BadKind) → IsProblemText bytes problem → IsBadText bytes at k → ⊥
-problem_not_bad bytes problem at k p b =
-    all_not_bad p.statements b.bad (subst (λ ts. AreGood _ (map (placed bytes) ts) p.statements) (one_list 0 bytes p.tokens b.tokens p.lexed b.lexed) p.good)
-
-pub problem_not_untokened : (bytes : List ℕ) (problem : PlainProblem) (at : ℕ) → IsProblemText bytes problem → IsNoText bytes at → ⊥
-problem_not_untokened bytes problem at p n = not_both 0 bytes p.tokens at p.lexed n.fails
-
 pub one_bad_text : (bytes : List ℕ) (at by : ℕ) (j k : BadKind) → IsBadText bytes at j → IsBadText bytes by k → (at ≡ by) × (j ≡ k)
 one_bad_text bytes at by j k a b =
     one_first (subst (λ ts. FirstBad _ (map (placed bytes) ts) at j) (one_list 0 bytes a.tokens b.tokens a.lexed b.lexed) a.bad) b.bad
@@ -88,11 +81,16 @@ bad_not_untokened bytes at by k b n = not_both 0 bytes b.tokens by b.lexed n.fai
 pub one_untokened : (bytes : List ℕ) (at by : ℕ) → IsNoText bytes at → IsNoText bytes by → at ≡ by
 one_untokened bytes at by a b = one_offset 0 bytes at by a.fails b.fails
 
+pub good_not_refused : (bytes : List ℕ) → IsGoodText bytes → (e : ReadError) → e ≢ OutOfMemory → Refuses bytes e → ⊥
+good_not_refused bytes g TooLarge some r = omega (arith, g.within, r)
+good_not_refused bytes g (Lex offset) some r = not_both 0 bytes g.tokens offset g.lexed r.fails
+good_not_refused bytes g (Bad offset kind) some r =
+    all_not_bad g.statements r.bad (subst (λ ts. AreGood _ (map (placed bytes) ts) g.statements) (one_list 0 bytes g.tokens r.tokens g.lexed r.lexed) g.good)
+good_not_refused bytes g OutOfMemory some r = some refl
+
 pub not_both_ways : (bytes : List ℕ) (problem : PlainProblem) (e : ReadError) → e ≢ OutOfMemory → IsProblemText bytes problem → Refuses bytes e → ⊥
-not_both_ways bytes problem TooLarge some p r = omega (arith, p.within, r)
-not_both_ways bytes problem (Lex offset) some p r = problem_not_untokened bytes problem offset p r
-not_both_ways bytes problem (Bad offset kind) some p r = problem_not_bad bytes problem offset kind p r
-not_both_ways bytes problem OutOfMemory some p r = some refl
+not_both_ways bytes problem e some p r =
+    good_not_refused bytes (record { within = p.within; tokens = p.tokens; lexed = p.lexed; statements = p.statements; good = p.good }) e some r
 
 pub one_way : (bytes : List ℕ) (e d : ReadError) → e ≢ OutOfMemory → d ≢ OutOfMemory → Refuses bytes e → Refuses bytes d → e ≡ d
 one_way bytes OutOfMemory d some other r s = absurd (some refl)

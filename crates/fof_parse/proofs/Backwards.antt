@@ -6,7 +6,7 @@ use Rattle.fof_parse.specs.declared.token.Bracket.TheVariants.{Round, Square}
 use Rattle.fof_parse.specs.declared.token.Mark.TheVariants.{Open, Close, Comma, Colon, Not, Quantifier, Binary, Equality}
 use Rattle.fof_parse.specs.Token.{Token, upper, marked}
 use Rattle.fof_parse.specs.Grammar.{Symbol, Term, variable, numeral, object, applied, Terms, no_terms, terms, Sentence, atom, equality, negation, binary, quantified, IsSymbol, alone, with_terms, IsTerm, variable_, number_, distinct_, applied_, AreTerms, last_, more_, IsUnit, atom_, equality_, negation_, quantified_, parentheses_, IsScope, last_variable, more_variables, IsJoined, two, more, IsFormula, unit_, joined_}
-use Rattle.fof_parse.specs.Reading.{if_some, after_mark, Reader, one_token, Head, symbol_head, variable_head, numeral_head, object_head, head_of, Lead, negation_lead, group_lead, quantifier_lead, lead_of, equality_of, variable_of, arguments_by, headed_by, term_by, terms_by, term_within, equated_by, atom_of, led_by, scope_by, body_by, bound_by, unit_by, can_join, next_operator, chain_by, formula_by, unit_within, formula_within}
+use Rattle.fof_parse.specs.Reader.Reading.{if_some, after_mark, Reader, one_token, Head, symbol_head, variable_head, numeral_head, object_head, head_of, Lead, negation_lead, group_lead, quantifier_lead, lead_of, equality_of, variable_of, arguments_by, headed_by, term_by, terms_by, term_within, equated_by, atom_of, led_by, scope_by, body_by, bound_by, unit_by, can_join, next_operator, chain_by, formula_by, unit_within, formula_within}
 use Rattle.fof_parse.proofs.Fronts.{bind_some, after_mark_is, one_token_is, lead_token, lead_of_is, equality_of_is, variable_of_is, IsHead, head_of_is, next_operator_is, can_repeat}
 use Rattle.fof_parse.proofs.Forwards.{term_none, term_step, unit_none, unit_step}
 

@@ -3,21 +3,21 @@ use Rattle.std.proofs.Common.{◌≡◌, ℕ, suc, ◌+◌, ◌≤◌, Bool, tru
 use Rattle.std.specs.Prelude.{slice_get}
 use Rattle.std.proofs.Math.Seq.{take-append_seam, drop-append_seam}
 use Rattle.fof_lex.specs.Tokens.{Lexes, LexesUpTo, AreIn as Found}
-use Rattle.fof_lex.specs.Lexer.{Unread, place, IsRefusalFrom}
+use Rattle.fof_lex.specs.Lexer.{Unread, place}
 use Rattle.fof_lex.specs.Refusal.{IsRefusalAt}
 use Rattle.fof_lex.specs.declared.text.LexError.{LexError}
 use Rattle.fof_lex.specs.declared.text.LexError.TheVariants as lex_errors
 use Rattle.fof_lex.specs.declared.token.Token.{Token as LexToken}
 use Rattle.fof_lex.proofs.Steps.{one_list}
-use Rattle.fof_lex.proofs.UpTo.{at_start, upto-append, upto-lexes, upto-ends, upto-fails}
+use Rattle.fof_lex.proofs.UpTo.{at_start, upto-append, upto-lexes, upto-ends, refused_behind}
 use Rattle.fof_parse.specs.declared.refusal.BadKind.{BadKind}
 use Rattle.fof_parse.specs.Token.{placed}
 use Rattle.fof_parse.specs.Problem.{PlainProblem, empty_problem}
 use Rattle.fof_parse.specs.Refusal.{IsBad, FirstBad}
 use Rattle.fof_parse.specs.TheProblem.{most_bytes, IsProblemText, IsBadText}
 use Rattle.fof_parse.specs.Refused.{Refuses, refusal_of}
-use Rattle.fof_parse.specs.Text.{AreAllIn, tokens_in}
-use Rattle.fof_parse.specs.Chunks.{is_stop_kind, statement_len, has_conjecture, Takes, ReadSoFar, IsNext, ReadUpTo}
+use Rattle.fof_parse.specs.Reader.Text.{AreAllIn, tokens_in}
+use Rattle.fof_parse.specs.Reader.Chunks.{is_stop_kind, statement_len, has_conjecture, Takes, ReadSoFar, IsNext, ReadUpTo}
 use Rattle.fof_parse.proofs.Pieces.{bad_at, one_more, nothing_left}
 use Rattle.fof_parse.proofs.Taking.{nothing_so_far, whole_text}
 
@@ -71,11 +71,6 @@ ended before behind tokens up h e =
           h more ∙ ap (λ us. length tokens + statement_len us) none ∙ omega arith;
       at_end = λ _. e;
     }
-
-pub refused_from : (before behind : Unread) (tokens : List LexToken) (e : LexError) → LexesUpTo (place before) before.rest tokens (place behind) behind.rest → IsRefusalFrom behind e
-    → IsRefusalAt (place before) before.rest e
-refused_from before behind tokens (lex_errors.Bad offset) up k = upto-fails (place before) before.rest tokens (place behind) behind.rest offset up k
-refused_from before behind tokens lex_errors.OutOfMemory up k = absurd k
 
 -- Statement by statement
 
@@ -137,13 +132,12 @@ module _ (bytes : List ℕ) (before behind : Unread) (tokens : List LexToken) (o
       (subst (λ us. ReadSoFar (map (placed bytes) us) [] old) same (subst (λ us. ReadSoFar (map (placed bytes) (up.done ++ (tokens ++ []))) (map (placed bytes) us) old) rest (before_it [] ends))) in
       record { within = within; tokens = done_more; lexed = all; statements = r.0; good = r.1; meaning = r.2 }
 
--- a refusal that is not for want of memory
-pub no_memory_wanted : (unread : Unread) (e : LexError) → IsRefusalFrom unread e → IsRefusalAt (place unread) unread.rest e
-no_memory_wanted unread (lex_errors.Bad offset) k = k
-no_memory_wanted unread lex_errors.OutOfMemory k = absurd k
+refused_whole : (bytes : List ℕ) (e : LexError) → length bytes ≤ most_bytes → IsRefusalAt 0 bytes e → Refuses bytes (refusal_of e)
+refused_whole bytes (lex_errors.Bad offset) within k = record { within = within; fails = k }
+refused_whole bytes lex_errors.OutOfMemory within k = tt
 
 -- what is refused later is refused of the whole text
 pub refused_later : (bytes : List ℕ) (unread : Unread) (tokens : List LexToken) (e : LexError) → LexesUpTo 0 bytes tokens (place unread) unread.rest → length bytes ≤ most_bytes
     → IsRefusalAt (place unread) unread.rest e → Refuses bytes (refusal_of e)
-refused_later bytes unread tokens (lex_errors.Bad offset) up within k = record { within = within; fails = upto-fails 0 bytes tokens (place unread) unread.rest offset up k }
-refused_later bytes unread tokens lex_errors.OutOfMemory up within k = tt
+refused_later bytes unread tokens e up within k =
+    refused_whole bytes e within (refused_behind 0 bytes tokens (place unread) unread.rest e up k)

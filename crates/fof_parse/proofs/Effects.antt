@@ -12,8 +12,8 @@ use Rattle.fof_parse.specs.Token.{unescaped, unescaped_from}
 use Rattle.fof_parse.specs.Grammar.{Symbol, word, defined, Term, variable, numeral, object, applied, Terms, no_terms, terms, Sentence, atom, equality, negation, binary, quantified}
 use Rattle.fof_parse.specs.Problem.{binder, is_closed_term, are_closed_terms, count, functions_in_term, functions_in_terms, InternsAll, IsPlainTerm, ArePlainTerms, IsPlain}
 use Rattle.fof_parse.specs.Refusal.{or_else, term_fault, terms_fault}
-use Rattle.fof_parse.specs.Building.{State, Effect, TermBuilt, TermsBuilt, IsVariable, IsFunctionHead, has_backslash}
-use Rattle.fof_parse.specs.Views.{terms_of_list}
+use Rattle.fof_parse.specs.Reader.Building.{State, Effect, TermBuilt, TermsBuilt, IsVariable, IsFunctionHead, has_backslash}
+use Rattle.fof_parse.specs.Reader.Views.{terms_of_list}
 use Rattle.fol_core.specs.View.{terms_of_list as plain_list}
 
 or_parts : (a b : Bool) → (a || b) ≡ false → (a ≡ false) × (b ≡ false)

@@ -6,7 +6,7 @@ use Rattle.fof_parse.specs.declared.token.Bracket.TheVariants.{Round}
 use Rattle.fof_parse.specs.declared.token.Mark.TheVariants.{Open, Close, Comma, Stop, Colon, Not, Quantifier, Binary, Equality}
 use Rattle.fof_parse.specs.Token.{Token, lower, upper, quoted, distinct, dollar, number, marked, other}
 use Rattle.fof_parse.specs.Grammar.{is_bracket, is_stop, AreBalanced, none, plain, nested, IsEnding, bare, annotated}
-use Rattle.fof_parse.specs.Reading.{◌>>=◌, same_bracket, closing, behind_balanced, begins_closed, is_end, is_bare, is_bare_behind, is_annotated, is_ending, if_some, after_mark}
+use Rattle.fof_parse.specs.Reader.Reading.{◌>>=◌, same_bracket, closing, behind_balanced, begins_closed, is_end, is_bare, is_bare_behind, is_annotated, is_ending, if_some, after_mark}
 use Rattle.fof_parse.proofs.Fronts.{bind_some, after_mark_is, same_bracket_is, same_bracket_self}
 
 -- Forwards

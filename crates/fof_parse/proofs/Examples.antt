@@ -19,7 +19,7 @@ use Rattle.fof_parse.specs.Problem.{PlainProblem, Label}
 use Rattle.fof_parse.specs.WellFormed.{IsClosedOver}
 use Rattle.fof_parse.specs.Kept.{IsKept}
 use Rattle.fof_parse.specs.Refusal.{early_fault, late_fault}
-use Rattle.fof_parse.specs.Reading.{heading_at, statement_within, term_within, unit_within}
+use Rattle.fof_parse.specs.Reader.Reading.{heading_at, statement_within, term_within, unit_within}
 
 -- the tokens of a statement
 abbrev statement : List Token → List Token → List Token

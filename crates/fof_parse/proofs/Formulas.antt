@@ -7,8 +7,8 @@ use Rattle.fof_parse.specs.declared.token.Bracket.TheVariants.{Round, Square}
 use Rattle.fof_parse.specs.declared.token.Mark.TheVariants.{Open, Close, Comma, Colon}
 use Rattle.fof_parse.specs.Token.{Token}
 use Rattle.fof_parse.specs.Grammar.{Term, Sentence, equality, negation, binary, quantified}
-use Rattle.fof_parse.specs.Reading.{◌>>=◌, if_some, after_mark, one_token, Lead, negation_lead, group_lead, quantifier_lead, lead_of, equality_of, variable_of, term_within, equated_by, atom_of, body_by, bound_by, scope_by, led_by, unit_by, next_operator, chain_by, unit_within, formula_within}
-use Rattle.fof_parse.specs.Parsing.{ReadsTerm, ReadsUnit, ReadsBody, ReadsBound, ReadsScope, ReadsFormula}
+use Rattle.fof_parse.specs.Reader.Reading.{◌>>=◌, if_some, after_mark, one_token, Lead, negation_lead, group_lead, quantifier_lead, lead_of, equality_of, variable_of, term_within, equated_by, atom_of, body_by, bound_by, scope_by, led_by, unit_by, next_operator, chain_by, unit_within, formula_within}
+use Rattle.fof_parse.specs.Reader.Parsing.{ReadsTerm, ReadsUnit, ReadsBody, ReadsBound, ReadsScope, ReadsFormula}
 use Rattle.fof_parse.proofs.Fronts.{enough}
 use Rattle.fof_parse.proofs.Forwards.{unit_step, chain_end, chain_step}
 use Rattle.fof_parse.proofs.Backwards.{term_sound, unit_sound}

@@ -7,7 +7,7 @@ use Rattle.fof_parse.specs.declared.token.Bracket.TheVariants.{Round, Square}
 use Rattle.fof_parse.specs.declared.token.Mark.TheVariants.{Open, Close, Comma, Colon, Not, Quantifier, Binary, Equality}
 use Rattle.fof_parse.specs.Token.{Token, upper, distinct, number, marked}
 use Rattle.fof_parse.specs.Grammar.{Symbol, Term, variable, numeral, object, applied, Terms, no_terms, terms, Sentence, atom, equality, negation, binary, quantified, IsSymbol, IsApplied, alone, with_terms, IsTerm, variable_, number_, distinct_, applied_, AreTerms, last_, more_, Repeats, IsUnit, atom_, equality_, negation_, quantified_, parentheses_, IsScope, last_variable, more_variables, IsJoined, two, more, IsFormula, unit_, joined_}
-use Rattle.fof_parse.specs.Reading.{◌>>=◌, if_some, after_mark, one_token, Head, head_of, symbol_head, lead_of, equality_of, operator_of, headed_by, term_by, terms_by, term_within, equated_by, led_by, scope_by, unit_by, can_join, next_operator, chain_by, unit_within, formula_within}
+use Rattle.fof_parse.specs.Reader.Reading.{◌>>=◌, if_some, after_mark, one_token, Head, head_of, symbol_head, lead_of, equality_of, operator_of, headed_by, term_by, terms_by, term_within, equated_by, led_by, scope_by, unit_by, can_join, next_operator, chain_by, unit_within, formula_within}
 use Rattle.fof_parse.proofs.Fronts.{one_token_front, symbol_is_head, symbol_no_lead, repeats_again, enough}
 
 -- Steps

@@ -11,9 +11,9 @@ use Rattle.fof_parse.specs.declared.token.Mark.TheVariants.{Open, Close}
 use Rattle.fof_parse.specs.Token.{Token}
 use Rattle.fof_parse.specs.Grammar.{Symbol, Term, applied, Terms, atom, equality, negation, quantified}
 use Rattle.fof_parse.specs.Problem.{plain_binary, plain_quantified}
-use Rattle.fof_parse.specs.Reading.{◌>>=◌, after_mark, one_token, negation_lead, group_lead, quantifier_lead, lead_of, equality_of, variable_of, atom_of, next_operator}
-use Rattle.fof_parse.specs.Parsing.{ReadsTerm, ReadsUnit, ReadsBound, ReadsScope, ReadsFormula, Parsed}
-use Rattle.fof_parse.specs.Building.{State, names, Built}
+use Rattle.fof_parse.specs.Reader.Reading.{◌>>=◌, after_mark, one_token, negation_lead, group_lead, quantifier_lead, lead_of, equality_of, variable_of, atom_of, next_operator}
+use Rattle.fof_parse.specs.Reader.Parsing.{ReadsTerm, ReadsUnit, ReadsBound, ReadsScope, ReadsFormula, Parsed}
+use Rattle.fof_parse.specs.Reader.Building.{State, names, Built}
 use Rattle.fof_parse.proofs.Formulas.{reads_atom, reads_equation, reads_negation, reads_group, reads_quantified, reads_variable}
 use Rattle.fof_parse.proofs.Means.{negation_built, quantified_built, FormulaSoFar, next_unit}
 

@@ -13,7 +13,7 @@ use Rattle.fof_parse.specs.declared.token.Mark.{Mark}
 use Rattle.fof_parse.specs.declared.token.Mark.TheVariants.{Open, Close, Comma, Stop, Colon, Not, Quantifier, Binary, Equality}
 use Rattle.fof_parse.specs.Token.{Token, lower, upper, quoted, distinct, dollar, number, marked, other}
 use Rattle.fof_parse.specs.Grammar.{Symbol, word, defined, IsSymbol, Repeats, by_and, by_or}
-use Rattle.fof_parse.specs.Reading.{◌>>=◌, same_bracket, same_operator, same_quantifier, same_equality, is_mark, after_mark, one_token, Head, symbol_head, variable_head, numeral_head, object_head, head_of, Lead, negation_lead, group_lead, quantifier_lead, lead_of, equality_of, operator_of, variable_of, repeats, can_join, next_operator}
+use Rattle.fof_parse.specs.Reader.Reading.{◌>>=◌, same_bracket, same_operator, same_quantifier, same_equality, is_mark, after_mark, one_token, Head, symbol_head, variable_head, numeral_head, object_head, head_of, Lead, negation_lead, group_lead, quantifier_lead, lead_of, equality_of, operator_of, variable_of, repeats, can_join, next_operator}
 
 pub bind_some : {A B : Type 0} (o : Option A) (f : A → Option B) (y : B) → (o >>= f) ≡ Some y → (x : A) × (o ≡ Some x) × (f x ≡ Some y)
 bind_some None f y h = cc

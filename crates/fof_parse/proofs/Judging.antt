@@ -7,13 +7,13 @@ use Rattle.fof_parse.specs.Token.{Token}
 use Rattle.fof_parse.specs.Grammar.{Statement}
 use Rattle.fof_parse.specs.Problem.{role_of, is_closed}
 use Rattle.fof_parse.specs.Refusal.{or_else, element_fault, early_fault, late_fault, IsBad, is_late}
-use Rattle.fof_parse.specs.Reading.{heading_at, is_ending, statement_within}
-use Rattle.fof_parse.specs.Parsing.{ReadsFormula, Parsed}
-use Rattle.fof_parse.specs.Building.{State, Built}
-use Rattle.fof_parse.specs.Verdict.{StatementRead, IsNoStatement, judged, GoodRead}
+use Rattle.fof_parse.specs.Reader.Reading.{heading_at, is_ending, statement_within}
+use Rattle.fof_parse.specs.Reader.Parsing.{ReadsFormula, Parsed}
+use Rattle.fof_parse.specs.Reader.Building.{State, Built}
+use Rattle.fof_parse.specs.Reader.Verdict.{StatementRead, IsNoStatement, judged, GoodRead}
 use Rattle.fof_parse.proofs.Statements.{heading_less, statement_read, statement_is}
 
-refuted : (ts : List Token) → statement_within (suc (length ts)) ts ≡ None → IsNoStatement ts
+pub refuted : (ts : List Token) → statement_within (suc (length ts)) ts ≡ None → IsNoStatement ts
 refuted ts h st is = cc (h, statement_read ts st is (suc (length ts)) (omega arith))
 
 pub no_heading : (ts : List Token) → heading_at ts ≡ None → IsNoStatement ts

@@ -77,7 +77,7 @@ mutual
 statement_fit : (ts : List Token) (st : Statement) → IsStatement ts st → symbols_in st.formula ≤ length ts
 statement_fit ts st h = omega (arith, formula_fit h.of_formula, ap length h.written, length-append h.body h.tail)
 
-first_and_rest : (ts : List Placed) → length (first_of ts) + length (behind_first ts) ≡ length ts
+pub first_and_rest : (ts : List Placed) → length (first_of ts) + length (behind_first ts) ≡ length ts
 first_and_rest [] = omega arith
 first_and_rest (t ∷ ts) = split (is_stop t.token) (first_and_rest ts) where
   split : (b : Bool) → length (first_of ts) + length (behind_first ts) ≡ length ts
@@ -85,7 +85,7 @@ first_and_rest (t ∷ ts) = split (is_stop t.token) (first_and_rest ts) where
   split true h = omega arith
   split false h = omega (arith, h)
 
-some_first : (t : Placed) (ts : List Placed) → 0 < length (first_of (t ∷ ts))
+pub some_first : (t : Placed) (ts : List Placed) → 0 < length (first_of (t ∷ ts))
 some_first t ts = split (is_stop t.token) where
   split : (b : Bool) → 0 < length (cond b (t.token ∷ []) (t.token ∷ first_of ts))
   split true = omega arith

@@ -23,3 +23,6 @@ pub mod Closed
 pub mod Kept
 mod Examples
 pub mod Apart
+pub mod Either
+pub mod OverTable
+pub mod Binders

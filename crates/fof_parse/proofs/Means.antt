@@ -13,14 +13,14 @@ use Rattle.fof_parse.specs.declared.token.Equality.{Equality as Equation}
 use Rattle.fof_parse.specs.Grammar.{word, defined, Term, Terms, no_terms, terms, Sentence, atom, equality, negation, binary, quantified}
 use Rattle.fof_parse.specs.Problem.{is_closed_term, are_closed_terms, is_closed, count, functions_in_term, functions_in_terms, functions_in, predicates_in, truth, plain_binary, plain_quantified}
 use Rattle.fof_parse.specs.Refusal.{or_else, fault_if, term_fault, terms_fault, element_fault}
-use Rattle.fof_parse.specs.Building.{State, Effect, TermBuilt, TermsBuilt, Built}
+use Rattle.fof_parse.specs.Reader.Building.{State, Effect, TermBuilt, TermsBuilt, Built}
 use Rattle.fof_parse.specs.Token.{Token}
-use Rattle.fof_parse.specs.Reading.{next_operator}
-use Rattle.fof_parse.specs.Parsing.{ReadsUnit, ReadsFormula, Parsed}
+use Rattle.fof_parse.specs.Reader.Reading.{next_operator}
+use Rattle.fof_parse.specs.Reader.Parsing.{ReadsUnit, ReadsFormula, Parsed}
 use Rattle.fof_parse.proofs.Fronts.{next_operator_is}
 use Rattle.fof_parse.proofs.Formulas.{ReadsOn, on_no_unit, on_unit, on_end, first_unit}
 use Rattle.fof_parse.specs.declared.term.Raw.{Raw}
-use Rattle.fof_parse.specs.Views.{raws_of}
+use Rattle.fof_parse.specs.Reader.Views.{raws_of}
 use Rattle.fof_parse.proofs.Effects.{interns_all_keeps, plain_kept, or_else-parts, effect_none, effect_then, effect_fault}
 
 pub negation_built : (vs : List (List ℕ)) (old new : State) (s : Sentence) (a b : PlainFormula) → Built vs old new s b → a ≡ syntax.not b → Built vs old new (negation s) a
@@ -85,16 +85,17 @@ dollar_built vs old mid new w us ts a none f s c h =
       plain = λ no closed. cc (e, no);
     }
 
+pub no_equality : (k : Option BadKind) → or_else k (Some kinds.Equality) ≡ None → ⊥
+no_equality None h = cc
+no_equality (Some k) h = cc
+
 pub equality_built : (vs : List (List ℕ)) (old mid noted new : State) (e : Equation) (t u : Term) (b c : PlainTerm) (a : PlainFormula) → TermBuilt vs old mid t b → noted.fault ≡ or_else mid.fault (Some kinds.Equality)
     → noted.symbols ≡ mid.symbols → noted.closed ≡ mid.closed → TermBuilt vs noted new u c → Built vs old new (equality e t u) a
 equality_built vs old mid noted new e t u b c a h f s d k = record {
   effect = effect_then old mid new (term_fault t) (Some kinds.Equality) (is_closed_term vs t) (is_closed_term vs u) (functions_in_term t) (functions_in_term u) [] [] h.effect
       (effect_then mid noted new (Some kinds.Equality) (term_fault u) true (is_closed_term vs u) [] (functions_in_term u) [] [] (effect_fault mid noted kinds.Equality f s d) k.effect);
-  plain = λ none closed. no_equality (term_fault t) none;
-} where
-  no_equality : (k : Option BadKind) → or_else k (Some kinds.Equality) ≡ None → ⊥
-  no_equality None h = cc
-  no_equality (Some k) h = cc
+  plain = λ none closed. absurd (no_equality (term_fault t) none);
+}
 
 -- Chains
 

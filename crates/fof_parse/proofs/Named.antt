@@ -16,7 +16,7 @@ use Rattle.fof_parse.specs.Token.{of_mark as token_of_mark}
 use Rattle.fof_parse.specs.Grammar.{Statement, is_stop, is_integer, name_of, IsStatement}
 use Rattle.fof_parse.specs.Problem.{Label, is_conjecture, AreLabels}
 use Rattle.fof_parse.specs.Refusal.{first_of, behind_first, AreGood}
-use Rattle.fof_parse.specs.Text.{IsIn, AreAllIn}
+use Rattle.fof_parse.specs.Reader.Text.{IsIn, AreAllIn}
 use Rattle.fof_parse.proofs.Texts.{proper_of}
 
 -- Numbers

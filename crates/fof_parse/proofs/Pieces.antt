@@ -8,8 +8,8 @@ use Rattle.fof_lex.specs.declared.token.Token.{Token as LexToken}
 use Rattle.fof_parse.specs.Token.{placed, token_of, token_in}
 use Rattle.fof_parse.specs.Grammar.{is_stop}
 use Rattle.fof_parse.specs.Refusal.{first_of, behind_first}
-use Rattle.fof_parse.specs.Text.{tokens_in}
-use Rattle.fof_parse.specs.Chunks.{is_stop_kind, statement_len, has_conjecture, Takes, ReadSoFar}
+use Rattle.fof_parse.specs.Reader.Text.{tokens_in}
+use Rattle.fof_parse.specs.Reader.Chunks.{is_stop_kind, statement_len, has_conjecture, Takes, ReadSoFar}
 use Rattle.std.specs.Prelude.{slice_get}
 use Rattle.fof_parse.specs.declared.refusal.BadKind.{BadKind}
 use Rattle.fof_parse.specs.Grammar.{Statement}

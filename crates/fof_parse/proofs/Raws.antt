@@ -9,7 +9,7 @@ use Rattle.fof_parse.specs.declared.term.Raw.TheOpen.{Raw-F}
 use Rattle.fof_parse.specs.declared.term.Raw.TheViews.{roll-Raw}
 use denote.Hole.Carrier.{roll}
 use Rattle.fof_parse.specs.Grammar as grammar
-use Rattle.fof_parse.specs.Views.{symbol_of, raw_level, raw_of, raws_of}
+use Rattle.fof_parse.specs.Reader.Views.{symbol_of, raw_level, raw_of, raws_of}
 
 pub raw_of_applied : (f : Symbol) (us : List Raw) → raw_of (Applied f us) ≡ grammar.applied (symbol_of f) (raws_of us)
 unfolding roll-Raw roll

@@ -6,7 +6,7 @@ use Rattle.fof_parse.specs.declared.token.Bracket.TheVariants.{Round}
 use Rattle.fof_parse.specs.declared.token.Mark.TheVariants.{Open, Comma}
 use Rattle.fof_parse.specs.Token.{Token, lower, upper, quoted, distinct, dollar, number, marked, other}
 use Rattle.fof_parse.specs.Grammar.{Statement, name_of, IsEnding, bare, annotated, IsStatement}
-use Rattle.fof_parse.specs.Reading.{after_mark, one_token, lower_of, fof_of, heading_at, formula_within, is_ending, statement_within}
+use Rattle.fof_parse.specs.Reader.Reading.{after_mark, one_token, lower_of, fof_of, heading_at, formula_within, is_ending, statement_within}
 use Rattle.fof_parse.proofs.Fronts.{bind_some, chosen, after_mark_is, one_token_is, one_token_front}
 use Rattle.fof_parse.proofs.Forwards.{EndsFormula, formula_read}
 use Rattle.fof_parse.proofs.Backwards.{formula_sound}

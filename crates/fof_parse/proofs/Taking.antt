@@ -3,8 +3,7 @@ use Rattle.std.proofs.Common.{◌≡◌, ℕ, Bool, true, false, not, ◌&&◌, 
 use Rattle.std.proofs.lemmas.Bool.{false≢true}
 use Rattle.std.specs.Prelude.{option_map}
 use Rattle.std.specs.Option.{is_some}
-use Rattle.fol_core.specs.View.{formula_of}
-use Rattle.fol_core.specs.declared.formula.Formula.{Formula}
+use Rattle.fol_core.specs.View.{TermFormula, formula_of}
 use Rattle.fol_core.specs.Syntax.{PlainFormula}
 use Rattle.fof_parse.specs.declared.refusal.BadKind.{BadKind}
 use Rattle.fof_parse.specs.declared.refusal.BadKind.TheVariants as kinds
@@ -13,10 +12,10 @@ use Rattle.fof_parse.specs.Token.{Token, Placed}
 use Rattle.fof_parse.specs.Grammar.{Statement}
 use Rattle.fof_parse.specs.Problem.{PlainProblem, Label, empty_problem, is_conjecture_role, is_conjecture, is_closed, functions_in, predicates_in, InternsAll, IsPlain, IsProblemOf}
 use Rattle.fof_parse.specs.Refusal.{fault_if, is_role, element_fault, late_fault, IsGood, IsBad, AreGood, FirstBad, here, first_of, behind_first}
-use Rattle.fof_parse.specs.Building.{State}
-use Rattle.fof_parse.specs.Verdict.{GoodRead}
-use Rattle.fof_parse.specs.Adding.{Places, Leads}
-use Rattle.fof_parse.specs.Chunks.{Puts, has_conjecture, Takes, ReadSoFar}
+use Rattle.fof_parse.specs.Reader.Building.{State}
+use Rattle.fof_parse.specs.Reader.Verdict.{GoodRead}
+use Rattle.fof_parse.specs.Reader.Adding.{Places, Leads}
+use Rattle.fof_parse.specs.Reader.Chunks.{Puts, has_conjecture, Takes, ReadSoFar}
 use Rattle.fof_parse.proofs.Effects.{or_else-parts}
 use Rattle.fof_parse.proofs.Adding.{problem_of_one_more, leads_more, all_good, first_bad}
 
@@ -29,12 +28,23 @@ not_false true h = refl
 not_false false h = absurd (false≢true (sym h))
 
 -- what a statement without a fault has
-faultless : (had : Bool) (st : Statement) → late_fault had st ≡ None → (element_fault st.formula ≡ None) × (is_closed [] st.formula ≡ true) × ((had && is_conjecture st) ≡ false)
+pub record Faultless (had : Bool) (st : Statement) : Type 0 where
+  pub element : element_fault st.formula ≡ None
+  pub role : is_role st.role ≡ true
+  pub closed : is_closed [] st.formula ≡ true
+  pub first : (had && is_conjecture st) ≡ false
+
+pub faultless : (had : Bool) (st : Statement) → late_fault had st ≡ None → Faultless had st
 faultless had st h =
     let a = or_else-parts (element_fault st.formula) _ h in
     let b = or_else-parts (fault_if (not (is_role st.role)) kinds.Role) _ a.1 in
     let c = or_else-parts (fault_if (not (is_closed [] st.formula)) kinds.FreeVariable) _ b.1 in
-    (a.0, not_false (is_closed [] st.formula) (no_fault_if (not (is_closed [] st.formula)) kinds.FreeVariable c.0), no_fault_if (had && is_conjecture st) kinds.SecondConjecture c.1)
+    record {
+      element = a.0;
+      role = not_false (is_role st.role) (no_fault_if (not (is_role st.role)) kinds.Role b.0);
+      closed = not_false (is_closed [] st.formula) (no_fault_if (not (is_closed [] st.formula)) kinds.FreeVariable c.0);
+      first = no_fault_if (had && is_conjecture st) kinds.SecondConjecture c.1;
+    }
 
 pub takes : (old mid new : PlainProblem) (s t : State) (had : Bool) (ts : List Token) (w : List ℕ) (r : Role) (a : PlainFormula) (l : Label) → GoodRead had ts s t w r a → had ≡ has_conjecture old → s.symbols ≡ old.symbols
     → mid.symbols ≡ t.symbols → mid.labels ≡ old.labels → mid.axioms ≡ old.axioms → mid.conjecture ≡ old.conjecture → l.name ≡ w → l.role ≡ r → Puts mid l a new → Takes old ts new
@@ -54,7 +64,7 @@ takes old mid new s t had ts w r a l g same start symbols labels axioms conjectu
         role = g.role ∙ ap Some (sym role);
         labels = puts.labels ∙ ap (λ ls. ls ++ l ∷ []) labels;
         plain = a;
-        is_plain = subst (λ table. IsPlain table [] g.statement.formula a) (sym now) (g.built.plain f.0 f.1);
+        is_plain = subst (λ table. IsPlain table [] g.statement.formula a) (sym now) (g.built.plain f.element f.closed);
         placed = places_as (is_conjecture g.statement) (ap is_conjecture_role (ap Some role ∙ sym g.role)) puts.placed;
       };
     } where
@@ -102,7 +112,7 @@ one_statement_more ts t rest behind front old new s first next k =
       leads = subst (λ us. Leads false ts (s.done ++ k.statement ∷ []) (has_conjecture new) us) next
           (subst (λ b. Leads false ts (s.done ++ k.statement ∷ []) b (behind_first (t ∷ rest))) (conjecture_more (is_conjecture k.statement) k.adds.plain old new k.adds.placed)
           (leads_more false ts s.done (has_conjecture old) t rest k.statement s.leads good));
-      meaning = problem_of_one_more s.done old new k.statement s.meaning k.adds (λ e. no_conjecture old.conjecture (and_second (has_conjecture old) (is_conjecture k.statement) f.2 e));
+      meaning = problem_of_one_more s.done old new k.statement s.meaning k.adds (λ e. no_conjecture old.conjecture (and_second (has_conjecture old) (is_conjecture k.statement) f.first e));
     }
 
 pub bad_statement : (ts : List Placed) (t : Placed) (rest : List Placed) (front : List Token) (old : PlainProblem) (k : BadKind) → ReadSoFar ts (t ∷ rest) old → first_of (t ∷ rest) ≡ front → IsBad (has_conjecture old) front k
@@ -113,6 +123,6 @@ bad_statement ts t rest front old k s first bad =
 pub whole_text : (ts : List Placed) (problem : PlainProblem) → ReadSoFar ts [] problem → (sts : List Statement) × AreGood false ts sts × IsProblemOf sts problem
 whole_text ts problem s = (s.done, all_good false ts s.done (has_conjecture problem) s.leads, s.meaning)
 
-pub has_as : (o : Option Formula) → is_some o ≡ is_some (option_map formula_of o)
+pub has_as : (o : Option TermFormula) → is_some o ≡ is_some (option_map formula_of o)
 has_as None = refl
 has_as (Some f) = refl

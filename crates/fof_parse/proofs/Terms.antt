@@ -7,9 +7,9 @@ use Rattle.fof_parse.specs.declared.token.Mark.{Mark}
 use Rattle.fof_parse.specs.declared.token.Mark.TheVariants.{Open, Close, Comma}
 use Rattle.fof_parse.specs.Token.{Token}
 use Rattle.fof_parse.specs.Grammar.{Symbol, Term, applied, Terms, no_terms, terms}
-use Rattle.fof_parse.specs.Reading.{◌>>=◌, if_some, after_mark, Reader, one_token, Head, symbol_head, head_of, headed_by, term_by, terms_by, term_within, terms_within}
-use Rattle.fof_parse.specs.Views.{raw_of, raws_of, terms_of_list}
-use Rattle.fof_parse.specs.Parsing.{ReadsTerm, ReadsArguments, ReadsTerms, IsProperSymbol, IsProperTerm, AreProperTerms}
+use Rattle.fof_parse.specs.Reader.Reading.{◌>>=◌, if_some, after_mark, Reader, one_token, Head, symbol_head, head_of, headed_by, term_by, terms_by, term_within, terms_within}
+use Rattle.fof_parse.specs.Reader.Views.{raw_of, raws_of, terms_of_list}
+use Rattle.fof_parse.specs.Reader.Parsing.{ReadsTerm, ReadsArguments, ReadsTerms, IsProperSymbol, IsProperTerm, AreProperTerms}
 use Rattle.fof_parse.proofs.Fronts.{after_mark_is, one_token_is, enough}
 use Rattle.fof_parse.proofs.Forwards.{term_step}
 use Rattle.fof_parse.proofs.Backwards.{term_sound}

@@ -12,7 +12,7 @@ use Rattle.fof_parse.specs.declared.token.Mark.{Mark}
 use Rattle.fof_parse.specs.declared.text.Text.{Text}
 use Rattle.fof_parse.specs.Token.{Token, between, unescaped_from, unescaped, mark_of, token_of, token_in}
 use Rattle.fof_parse.specs.Token.{of_mark as token_of_mark}
-use Rattle.fof_parse.specs.Text.{IsIn, AreAllIn, AreIn, from, IsProper}
+use Rattle.fof_parse.specs.Reader.Text.{IsIn, AreAllIn, AreIn, from, IsProper}
 use Rattle.std.proofs.lemmas.Bool.{and_parts}
 use Rattle.std.proofs.lemmas.Bool.Decides.{nat_tests}
 use Rattle.std.proofs.lemmas.List.Elements.{All-nil, All-cons}
@@ -68,7 +68,8 @@ word_bytes (c ∷ cs) h =
 
 lower_name : {w : List ℕ} → IsLowerWord w → IsSymbolName w
 unfolding IsPrintable
-lower_name (lower_word c cs h k) = (omega arith, All-cons (λ c. (32 ≤ c) × (c ≤ 126)) c cs (lower_byte c h) (word_bytes cs k))
+lower_name (lower_word c cs h) =
+    let p = and_parts (is_lower c) (list_all is_word_byte cs) h in (omega arith, All-cons (λ c. (32 ≤ c) × (c ≤ 126)) c cs (lower_byte c p.0) (word_bytes cs p.1))
 
 unescaped_plain : (c : ℕ) (body : List ℕ) → is_plain 39 c ≡ true → unescaped (c ∷ body) ≡ c ∷ unescaped body
 unescaped_plain c body h = ap (λ b. cond b (unescaped_from true body) (c ∷ unescaped body)) (plain_is_no_backslash c h)

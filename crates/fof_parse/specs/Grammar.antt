@@ -1,5 +1,6 @@
 -- Which lists of tokens are which statements.
-use Rattle.std.specs.Prelude.{◌≡◌, ℕ, Bool, true, false, ◌||◌, eqb, if◌then◌else◌, List, [], ◌∷◌, ◌++◌, codes, Option, Some, None}
+use Rattle.std.specs.Prelude.{◌≡◌, ℕ, Bool, true, false, ◌||◌, eqb, if◌then◌else◌, List, [], ◌∷◌, ◌++◌, codes, Option}
+use Rattle.std.specs.Prelude.{Some, None}
 use Rattle.std.specs.List.{list_all}
 use Rattle.fof_lex.specs.Bytes.{is_digit}
 use Rattle.fof_parse.specs.Token.{Token, lower, upper, quoted, distinct, dollar, number, marked, other}
@@ -9,10 +10,11 @@ use Rattle.fof_parse.specs.declared.token.Quantifier.{Quantifier as Quantor}
 use Rattle.fof_parse.specs.declared.token.Equality.{Equality as Equation}
 use Rattle.fof_parse.specs.declared.token.Bracket.{Bracket}
 use Rattle.fof_parse.specs.declared.token.Bracket.TheVariants.{Round, Square}
-use Rattle.fof_parse.specs.declared.token.Mark.TheVariants.{Open, Close, Comma, Stop, Colon, Not, Quantifier, Binary, Equality}
+use Rattle.fof_parse.specs.declared.token.Mark.TheVariants.{Open, Close, Comma, Stop, Colon, Not, Quantifier, Binary}
+use Rattle.fof_parse.specs.declared.token.Mark.TheVariants.{Equality}
 
--- A symbol as it is written: a lower word or a quoted text, which are the same symbol where they say the same; or a word
--- with `$`.
+-- A symbol as it is written: a lower word or a quoted text, which are the same symbol where they say the same; or a
+-- word with `$`.
 pub data Symbol : Type 0 where
   word : List ℕ → Symbol
   defined : List ℕ → Symbol
@@ -71,7 +73,8 @@ mutual
   -- one or more terms, with commas between them
   pub data AreTerms : List Token → Terms → Type 0 where
     last_ : (ts : List Token) (u : Term) → IsTerm ts u → AreTerms ts (terms u no_terms)
-    more_ : (ts rest : List Token) (u : Term) (us : Terms) → IsTerm ts u → AreTerms rest us → AreTerms (ts ++ marked Comma ∷ rest) (terms u us)
+    more_ : (ts rest : List Token) (u : Term) (us : Terms) → IsTerm ts u → AreTerms rest us
+        → AreTerms (ts ++ marked Comma ∷ rest) (terms u us)
 
 -- more than two units can be joined by it
 pub data Repeats : Operator → Type 0 where
@@ -79,25 +82,31 @@ pub data Repeats : Operator → Type 0 where
   by_or : Repeats Or
 
 mutual
-  -- A unit is an atom, an equation, `~` with a unit behind it, a quantifier with its variables and a unit behind it, or a formula
-  -- in parentheses.
+  -- A unit is an atom, an equation, `~` with a unit behind it, a quantifier with its variables and a unit behind it, or
+  -- a formula in parentheses.
   pub data IsUnit : List Token → Sentence → Type 0 where
     atom_ : (ts : List Token) (p : Symbol) (us : Terms) → IsApplied ts p us → IsUnit ts (atom p us)
-    equality_ : (e : Equation) (ts us : List Token) (t u : Term) → IsTerm ts t → IsTerm us u → IsUnit (ts ++ marked (Equality e) ∷ us) (equality e t u)
+    equality_ : (e : Equation) (ts us : List Token) (t u : Term) → IsTerm ts t → IsTerm us u
+        → IsUnit (ts ++ marked (Equality e) ∷ us) (equality e t u)
     negation_ : (ts : List Token) (a : Sentence) → IsUnit ts a → IsUnit (marked Not ∷ ts) (negation a)
-    quantified_ : (q : Quantor) (ts : List Token) (a : Sentence) → IsScope q ts a → IsUnit (marked (Quantifier q) ∷ marked (Open Square) ∷ ts) a
-    parentheses_ : (ts : List Token) (a : Sentence) → IsFormula ts a → IsUnit (marked (Open Round) ∷ (ts ++ marked (Close Round) ∷ [])) a
+    quantified_ : (q : Quantor) (ts : List Token) (a : Sentence) → IsScope q ts a
+        → IsUnit (marked (Quantifier q) ∷ marked (Open Square) ∷ ts) a
+    parentheses_ : (ts : List Token) (a : Sentence) → IsFormula ts a
+        → IsUnit (marked (Open Round) ∷ (ts ++ marked (Close Round) ∷ [])) a
 
-  -- The variables of a quantifier, with commas between them, and the unit behind `]:`. The first variable is the outermost.
+  -- The variables of a quantifier, with commas between them, and the unit behind `]:`. The first variable is the
+  -- outermost.
   pub data IsScope : Quantor → List Token → Sentence → Type 0 where
     last_variable : (q : Quantor) (w : List ℕ) (ts : List Token) (a : Sentence) → IsUnit ts a
         → IsScope q (upper w ∷ marked (Close Square) ∷ marked Colon ∷ ts) (quantified q w a)
-    more_variables : (q : Quantor) (w : List ℕ) (ts : List Token) (a : Sentence) → IsScope q ts a → IsScope q (upper w ∷ marked Comma ∷ ts) (quantified q w a)
+    more_variables : (q : Quantor) (w : List ℕ) (ts : List Token) (a : Sentence) → IsScope q ts a
+        → IsScope q (upper w ∷ marked Comma ∷ ts) (quantified q w a)
 
-  -- Two units with an operator between them, or a chain of more with the same operator, which is `&` or `|`. A chain is joined from
-  -- the left on.
+  -- Two units with an operator between them, or a chain of more with the same operator, which is `&` or `|`. A chain is
+  -- joined from the left on.
   pub data IsJoined : Operator → List Token → Sentence → Type 0 where
-    two : (op : Operator) (ts us : List Token) (a b : Sentence) → IsUnit ts a → IsUnit us b → IsJoined op (ts ++ marked (Binary op) ∷ us) (binary op a b)
+    two : (op : Operator) (ts us : List Token) (a b : Sentence) → IsUnit ts a → IsUnit us b
+        → IsJoined op (ts ++ marked (Binary op) ∷ us) (binary op a b)
     more : (op : Operator) (ts us : List Token) (a b : Sentence) → Repeats op → IsJoined op ts a → IsUnit us b
         → IsJoined op (ts ++ marked (Binary op) ∷ us) (binary op a b)
 
@@ -117,13 +126,16 @@ is_stop _ = false
 -- Tokens without a full stop, in which the brackets are balanced and properly nested.
 pub data AreBalanced : List Token → Type 0 where
   none : AreBalanced []
-  plain : (t : Token) (ts : List Token) → is_bracket t ≡ false → is_stop t ≡ false → AreBalanced ts → AreBalanced (t ∷ ts)
-  nested : (b : Bracket) (ts us : List Token) → AreBalanced ts → AreBalanced us → AreBalanced (marked (Open b) ∷ (ts ++ marked (Close b) ∷ us))
+  plain : (t : Token) (ts : List Token) → is_bracket t ≡ false → is_stop t ≡ false → AreBalanced ts
+      → AreBalanced (t ∷ ts)
+  nested : (b : Bracket) (ts us : List Token) → AreBalanced ts → AreBalanced us
+      → AreBalanced (marked (Open b) ∷ (ts ++ marked (Close b) ∷ us))
 
 -- `).`, or one or more further tokens before it
 pub data IsEnding : List Token → Type 0 where
   bare : IsEnding (marked (Close Round) ∷ marked Stop ∷ [])
-  annotated : (t : Token) (ts : List Token) → AreBalanced (t ∷ ts) → IsEnding (marked Comma ∷ (t ∷ ts) ++ marked (Close Round) ∷ marked Stop ∷ [])
+  annotated : (t : Token) (ts : List Token) → AreBalanced (t ∷ ts)
+      → IsEnding (marked Comma ∷ (t ∷ ts) ++ marked (Close Round) ∷ marked Stop ∷ [])
 
 abbrev pub without_sign : List ℕ → List ℕ
 without_sign [] = []
@@ -147,4 +159,5 @@ pub record IsStatement (ts : List Token) (st : Statement) : Type 0 where
   pub of_formula : IsFormula body st.formula
   pub tail : List Token
   pub ending : IsEnding tail
-  pub written : ts ≡ lower (codes "fof") ∷ marked (Open Round) ∷ name ∷ marked Comma ∷ lower st.role ∷ marked Comma ∷ (body ++ tail)
+  pub written : ts ≡ lower (codes "fof") ∷ marked (Open Round) ∷ name ∷ marked Comma ∷ lower st.role ∷ marked Comma
+      ∷ (body ++ tail)

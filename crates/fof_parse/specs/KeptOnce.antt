@@ -20,14 +20,16 @@ mutual
   IsWellFormedTerm-prop : (fs : List Known) (n : ℕ) (t : PlainTerm) → IsProp (IsWellFormedTerm fs n t)
   IsWellFormedTerm-prop fs n (bound k) = le_prop
   IsWellFormedTerm-prop fs n (param k) = λ x y. absurd x
-  IsWellFormedTerm-prop fs n (app f us) = ×_prop (HasArity-prop (slice_get fs f) (count us)) (AreWellFormedTerms-prop fs n us)
+  IsWellFormedTerm-prop fs n (app f us) =
+      ×_prop (HasArity-prop (slice_get fs f) (count us)) (AreWellFormedTerms-prop fs n us)
 
   AreWellFormedTerms-prop : (fs : List Known) (n : ℕ) (us : PlainTerms) → IsProp (AreWellFormedTerms fs n us)
   AreWellFormedTerms-prop fs n no_terms = Unit-prop
   AreWellFormedTerms-prop fs n (terms u us) = ×_prop (IsWellFormedTerm-prop fs n u) (AreWellFormedTerms-prop fs n us)
 
 IsWellFormed-prop : (table : SymbolTable) (n : ℕ) (a : PlainFormula) → IsProp (IsWellFormed table n a)
-IsWellFormed-prop table n (syntax.atom p us) = ×_prop (HasArity-prop (slice_get table.predicates p) (count us)) (AreWellFormedTerms-prop table.functions n us)
+IsWellFormed-prop table n (syntax.atom p us) =
+    ×_prop (HasArity-prop (slice_get table.predicates p) (count us)) (AreWellFormedTerms-prop table.functions n us)
 IsWellFormed-prop table n syntax.verum = Unit-prop
 IsWellFormed-prop table n syntax.falsum = Unit-prop
 IsWellFormed-prop table n (syntax.not a) = IsWellFormed-prop table n a

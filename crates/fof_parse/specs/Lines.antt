@@ -1,7 +1,8 @@
 -- How a refusal is told.
 use Rattle.std.specs.Prelude.{◌≡◌, ◌⊎◌, ℕ, List, [], ◌∷◌, ◌++◌, codes, decimal}
 use Rattle.fof_parse.specs.declared.refusal.BadKind.{BadKind}
-use Rattle.fof_parse.specs.declared.refusal.BadKind.TheVariants.{Include, Language, TooDeep, Syntax, Equality, Number, Distinct, Dollar, Role, FreeVariable, SecondConjecture}
+use Rattle.fof_parse.specs.declared.refusal.BadKind.TheVariants.{Include, Language, TooDeep, Syntax, Equality, Number}
+use Rattle.fof_parse.specs.declared.refusal.BadKind.TheVariants.{Distinct, Dollar, Role, FreeVariable, SecondConjecture}
 use Rattle.fof_parse.specs.TheProblem.{IsNoText, IsBadText}
 
 abbrev pub kind_word : BadKind → List ℕ

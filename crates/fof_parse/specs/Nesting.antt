@@ -1,6 +1,7 @@
 -- How deep the tokens of a statement nest.
 use Rattle.std.specs.Prelude.{ℕ, suc, max, List, [], ◌∷◌}
 use Rattle.fof_parse.specs.Token.{Token, upper, marked}
+use Rattle.fof_parse.specs.declared.ending.TheConstants.{MAX_NESTING}
 use Rattle.fof_parse.specs.declared.token.Bracket.TheVariants.{Round}
 use Rattle.fof_parse.specs.declared.token.Mark.TheVariants.{Open, Close, Not, Quantifier, Binary}
 
@@ -13,8 +14,8 @@ abbrev pub without_last_kept : List ℕ → List ℕ
 without_last_kept [] = []
 without_last_kept (k ∷ kept) = kept
 
--- The count behind a token, where it is n before it and the open parentheses keep these counts. `(`, `~`, the quantifiers, the
--- operators and the upper words add 1, and `)` sets the count back to what its `(` kept.
+-- The count behind a token, where it is n before it and the open parentheses keep these counts. `(`, `~`, the
+-- quantifiers, the operators and the upper words add 1, and `)` sets the count back to what its `(` kept.
 abbrev pub count_behind : ℕ → List ℕ → Token → ℕ
 count_behind n kept (marked (Open Round)) = suc n
 count_behind n kept (marked (Close Round)) = last_kept n kept
@@ -36,4 +37,4 @@ nesting n kept [] = n
 nesting n kept (t ∷ ts) = max n (nesting (count_behind n kept t) (kept_behind n kept t) ts)
 
 abbrev pub most_nesting : ℕ
-most_nesting = 500
+most_nesting = MAX_NESTING

@@ -1,5 +1,6 @@
 -- What a statement says: its symbols, its formula, and its place in the problem.
-use Rattle.std.specs.Prelude.{◌≡◌, ℕ, suc, Bool, true, false, not, ◌&&◌, if◌then◌else◌, List, [], ◌∷◌, ◌++◌, length, map, filter, codes, Option, Some, None, option_to_list}
+use Rattle.std.specs.Prelude.{◌≡◌, ℕ, suc, Bool, true, false, not, ◌&&◌, if◌then◌else◌, List, [], ◌∷◌, ◌++◌, length}
+use Rattle.std.specs.Prelude.{map, filter, codes, Option, Some, None, option_to_list}
 use Rattle.std.specs.Option.{is_some}
 use Rattle.std.specs.List.{flat_map}
 use Rattle.std.specs.Str.{bytes_eq}
@@ -7,12 +8,16 @@ use Rattle.fol_core.specs.Syntax.{PlainTerm, PlainTerms, PlainFormula}
 use Rattle.fol_core.specs.Syntax as syntax
 use Rattle.fol_core.specs.Symbol.{Symbol as Known, SymbolTable, IsAt, Interns}
 use Rattle.fof_parse.specs.declared.token.Operator.{Operator}
-use Rattle.fof_parse.specs.declared.token.Operator.TheVariants.{Implies, ImpliedBy, Equivalent, NotEquivalent, NotAnd, NotOr, And, Or}
+use Rattle.fof_parse.specs.declared.token.Operator.TheVariants.{Implies, ImpliedBy, Equivalent, NotEquivalent, NotAnd}
+use Rattle.fof_parse.specs.declared.token.Operator.TheVariants.{NotOr, And, Or}
 use Rattle.fof_parse.specs.declared.token.Quantifier.{Quantifier as Quantor}
 use Rattle.fof_parse.specs.declared.token.Quantifier.TheVariants as quantifiers
 use Rattle.fof_parse.specs.declared.statement.Role.{Role}
-use Rattle.fof_parse.specs.declared.statement.Role.TheVariants.{Axiom, Hypothesis, Definition, Assumption, Lemma, Theorem, Corollary, Plain, NegatedConjecture, Conjecture}
-use Rattle.fof_parse.specs.Grammar.{Symbol, word, defined, Term, variable, numeral, object, applied, Terms, no_terms, terms, Sentence, atom, equality, negation, binary, quantified, Statement}
+use Rattle.fof_parse.specs.declared.statement.Role.TheVariants.{Axiom, Hypothesis, Definition, Assumption, Lemma}
+use Rattle.fof_parse.specs.declared.statement.Role.TheVariants.{Theorem, Corollary, Plain, NegatedConjecture}
+use Rattle.fof_parse.specs.declared.statement.Role.TheVariants.{Conjecture}
+use Rattle.fof_parse.specs.Grammar.{Symbol, word, defined, Term, variable, numeral, object, applied, Terms, no_terms}
+use Rattle.fof_parse.specs.Grammar.{terms, Sentence, atom, equality, negation, binary, quantified, Statement}
 
 -- Roles
 
@@ -39,8 +44,8 @@ is_conjecture st = is_conjecture_role (role_of st.role)
 
 -- Variables
 
--- The quantifier that binds the variable, where these variables are in scope, the outermost quantifier's first: the last one of
--- that name, counted from the innermost, 0.
+-- The quantifier that binds the variable, where these variables are in scope, the outermost quantifier's first: the
+-- last one of that name, counted from the innermost, 0.
 abbrev pub later_or : Option ℕ → Option ℕ → Option ℕ
 later_or None m = m
 later_or (Some n) m = Some n
@@ -106,8 +111,8 @@ predicates_in (negation s) = predicates_in s
 predicates_in (binary op s t) = predicates_in s ++ predicates_in t
 predicates_in (quantified q w s) = predicates_in s
 
--- The symbols are put at the end of the list one after the other, each where it is not there yet. So each stands there once, in
--- the order in which they first come.
+-- The symbols are put at the end of the list one after the other, each where it is not there yet. So each stands there
+-- once, in the order in which they first come.
 abbrev pub InternsAll : List Known → List Known → List Known → Type 0
 InternsAll old [] new = new ≡ old
 InternsAll old (s ∷ ss) new = (mid : List Known) × Interns old s mid × InternsAll mid ss new
@@ -128,28 +133,33 @@ abbrev pub plain_quantified : Quantor → PlainFormula → PlainFormula
 plain_quantified quantifiers.All a = syntax.all a
 plain_quantified quantifiers.Some a = syntax.ex a
 
--- The term, with each symbol as its number in the list, and each variable as its quantifier. A number, a distinct object and a word
--- with `$` are none.
+-- The term, with each symbol as its number in the list, and each variable as its quantifier. A number, a distinct
+-- object and a word with `$` are none.
 abbrev mutual
   pub IsPlainTerm : List Known → List (List ℕ) → Term → PlainTerm → Type 0
   IsPlainTerm fs vs (variable w) t = (n : ℕ) × (binder vs w ≡ Some n) × (t ≡ syntax.bound n)
   IsPlainTerm fs vs (numeral w) t = ⊥
   IsPlainTerm fs vs (object w) t = ⊥
   IsPlainTerm fs vs (applied (defined w) us) t = ⊥
-  IsPlainTerm fs vs (applied (word w) us) t = (n : ℕ) × (ts : PlainTerms) × IsAt fs (w, count us) n × ArePlainTerms fs vs us ts × (t ≡ syntax.app n ts)
+  IsPlainTerm fs vs (applied (word w) us) t =
+      (n : ℕ) × (ts : PlainTerms) × IsAt fs (w, count us) n × ArePlainTerms fs vs us ts × (t ≡ syntax.app n ts)
 
   pub ArePlainTerms : List Known → List (List ℕ) → Terms → PlainTerms → Type 0
   ArePlainTerms fs vs no_terms ts = ts ≡ syntax.no_terms
   ArePlainTerms fs vs (terms u us) ts =
-      (t : PlainTerm) × (rest : PlainTerms) × IsPlainTerm fs vs u t × ArePlainTerms fs vs us rest × (ts ≡ syntax.terms t rest)
+      (t : PlainTerm) × (rest : PlainTerms) × IsPlainTerm fs vs u t × ArePlainTerms fs vs us rest
+      × (ts ≡ syntax.terms t rest)
 
 -- `$true` and `$false` as whole atoms
 abbrev pub truth : List ℕ → Terms → Option PlainFormula
-truth w no_terms = if bytes_eq w (codes "$true") then Some syntax.verum else (if bytes_eq w (codes "$false") then Some syntax.falsum else None)
+truth w no_terms =
+    if bytes_eq w (codes "$true") then Some syntax.verum
+    else (if bytes_eq w (codes "$false") then Some syntax.falsum else None)
 truth w (terms u us) = None
 
 abbrev pub IsPlainAtom : SymbolTable → List (List ℕ) → Symbol → Terms → PlainFormula → Type 0
-IsPlainAtom table vs (word w) us a = (n : ℕ) × (ts : PlainTerms) × IsAt table.predicates (w, count us) n × ArePlainTerms table.functions vs us ts × (a ≡ syntax.atom n ts)
+IsPlainAtom table vs (word w) us a = (n : ℕ) × (ts : PlainTerms) × IsAt table.predicates (w, count us) n
+    × ArePlainTerms table.functions vs us ts × (a ≡ syntax.atom n ts)
 IsPlainAtom table vs (defined w) us a = truth w us ≡ Some a
 
 -- the formula, where these variables are in scope
@@ -157,8 +167,10 @@ abbrev pub IsPlain : SymbolTable → List (List ℕ) → Sentence → PlainFormu
 IsPlain table vs (atom p us) a = IsPlainAtom table vs p us a
 IsPlain table vs (equality e t u) a = ⊥
 IsPlain table vs (negation s) a = (b : PlainFormula) × IsPlain table vs s b × (a ≡ syntax.not b)
-IsPlain table vs (binary op s t) a = (b c : PlainFormula) × IsPlain table vs s b × IsPlain table vs t c × (a ≡ plain_binary op b c)
-IsPlain table vs (quantified q w s) a = (b : PlainFormula) × IsPlain table (vs ++ w ∷ []) s b × (a ≡ plain_quantified q b)
+IsPlain table vs (binary op s t) a =
+    (b c : PlainFormula) × IsPlain table vs s b × IsPlain table vs t c × (a ≡ plain_binary op b c)
+IsPlain table vs (quantified q w s) a =
+    (b : PlainFormula) × IsPlain table (vs ++ w ∷ []) s b × (a ≡ plain_quantified q b)
 
 -- Problems
 
@@ -174,7 +186,8 @@ pub record PlainProblem : Type 0 where
   pub conjecture : Option PlainFormula
 
 abbrev pub empty_problem : PlainProblem
-empty_problem = record { symbols = record { functions = []; predicates = [] }; labels = []; axioms = []; conjecture = None }
+empty_problem =
+    record { symbols = record { functions = []; predicates = [] }; labels = []; axioms = []; conjecture = None }
 
 abbrev pub ArePlain : SymbolTable → List Sentence → List PlainFormula → Type 0
 ArePlain table [] [] = Unit {0}

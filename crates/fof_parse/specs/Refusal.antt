@@ -1,12 +1,16 @@
 -- Which statements are refused.
-use Rattle.std.specs.Prelude.{◌≡◌, ℕ, Bool, not, ◌&&◌, ◌||◌, nat_lt, if◌then◌else◌, List, [], ◌∷◌, codes, Option, Some, None}
+use Rattle.std.specs.Prelude.{◌≡◌, ℕ, Bool, not, ◌&&◌, ◌||◌, nat_lt, if◌then◌else◌, List, [], ◌∷◌, codes, Option, Some}
+use Rattle.std.specs.Prelude.{None}
 use Rattle.std.specs.Option.{is_some}
 use Rattle.std.specs.Str.{bytes_eq}
 use Rattle.fof_parse.specs.declared.refusal.BadKind.{BadKind}
-use Rattle.fof_parse.specs.declared.refusal.BadKind.TheVariants.{Include, Language, TooDeep, Syntax, Equality, Number, Distinct, Dollar, Role, FreeVariable, SecondConjecture}
+use Rattle.fof_parse.specs.declared.refusal.BadKind.TheVariants.{Include, Language, TooDeep, Syntax, Equality, Number}
+use Rattle.fof_parse.specs.declared.refusal.BadKind.TheVariants.{Distinct, Dollar, Role, FreeVariable, SecondConjecture}
 use Rattle.fof_parse.specs.Token.{Token, lower, Placed}
 use Rattle.fof_parse.specs.Nesting.{nesting, most_nesting}
-use Rattle.fof_parse.specs.Grammar.{Symbol, word, defined, Term, variable, numeral, object, applied, Terms, no_terms, terms, Sentence, atom, equality, negation, binary, quantified, Statement, is_stop, IsStatement}
+use Rattle.fof_parse.specs.Grammar.{Symbol, word, defined, Term, variable, numeral, object, applied, Terms, no_terms}
+use Rattle.fof_parse.specs.Grammar.{terms, Sentence, atom, equality, negation, binary, quantified, Statement, is_stop}
+use Rattle.fof_parse.specs.Grammar.{IsStatement}
 use Rattle.fof_parse.specs.Problem.{truth, role_of, is_conjecture, is_closed}
 
 -- the first of two faults
@@ -19,10 +23,13 @@ fault_if b k = if b then Some k else None
 
 -- what the first token of a statement says
 abbrev pub is_other_language : List ℕ → Bool
-is_other_language w = bytes_eq w (codes "tff") || bytes_eq w (codes "thf") || bytes_eq w (codes "tcf") || bytes_eq w (codes "tpi") || bytes_eq w (codes "cnf")
+is_other_language w =
+    bytes_eq w (codes "tff") || bytes_eq w (codes "thf") || bytes_eq w (codes "tcf")
+    || bytes_eq w (codes "tpi") || bytes_eq w (codes "cnf")
 
 abbrev pub first_fault : List Token → Option BadKind
-first_fault (lower w ∷ ts) = or_else (fault_if (bytes_eq w (codes "include")) Include) (fault_if (is_other_language w) Language)
+first_fault (lower w ∷ ts) =
+    or_else (fault_if (bytes_eq w (codes "include")) Include) (fault_if (is_other_language w) Language)
 first_fault _ = None
 
 -- what is refused before the grammar is looked at
@@ -77,7 +84,8 @@ pub record IsGood (had : Bool) (ts : List Token) (st : Statement) : Type 0 where
 pub data IsBad (had : Bool) (ts : List Token) : BadKind → Type 0 where
   is_early : (k : BadKind) → early_fault ts ≡ Some k → IsBad had ts k
   no_statement : early_fault ts ≡ None → ((st : Statement) → IsStatement ts st → ⊥) → IsBad had ts Syntax
-  is_late : (k : BadKind) (st : Statement) → early_fault ts ≡ None → IsStatement ts st → late_fault had st ≡ Some k → IsBad had ts k
+  is_late : (k : BadKind) (st : Statement) → early_fault ts ≡ None → IsStatement ts st → late_fault had st ≡ Some k
+      → IsBad had ts k
 
 -- The first statement of a text goes up to its first full stop, or to the end.
 abbrev pub first_of : List Placed → List Token
@@ -93,10 +101,13 @@ abbrev pub AreGood : Bool → List Placed → List Statement → Type 0
 AreGood had [] [] = Unit {0}
 AreGood had [] (st ∷ sts) = ⊥
 AreGood had (t ∷ ts) [] = ⊥
-AreGood had (t ∷ ts) (st ∷ sts) = IsGood had (first_of (t ∷ ts)) st × AreGood (had || is_conjecture st) (behind_first (t ∷ ts)) sts
+AreGood had (t ∷ ts) (st ∷ sts) =
+    IsGood had (first_of (t ∷ ts)) st × AreGood (had || is_conjecture st) (behind_first (t ∷ ts)) sts
 
 -- Statements without a fault come first, and then one that is bad, at the offset of its first token.
 pub data FirstBad : Bool → List Placed → ℕ → BadKind → Type 0 where
-  here : (had : Bool) (t : Placed) (ts : List Placed) (k : BadKind) → IsBad had (first_of (t ∷ ts)) k → FirstBad had (t ∷ ts) t.offset k
-  later : (had : Bool) (t : Placed) (ts : List Placed) (st : Statement) (at : ℕ) (k : BadKind) → IsGood had (first_of (t ∷ ts)) st
+  here : (had : Bool) (t : Placed) (ts : List Placed) (k : BadKind) → IsBad had (first_of (t ∷ ts)) k
+      → FirstBad had (t ∷ ts) t.offset k
+  later : (had : Bool) (t : Placed) (ts : List Placed) (st : Statement) (at : ℕ) (k : BadKind)
+      → IsGood had (first_of (t ∷ ts)) st
       → FirstBad (had || is_conjecture st) (behind_first (t ∷ ts)) at k → FirstBad had (t ∷ ts) at k

@@ -8,15 +8,17 @@ use Rattle.fof_lex.specs.declared.token.Mark.TheVariants as marks
 use Rattle.fof_lex.specs.declared.token.Kind.{Kind}
 use Rattle.fof_lex.specs.declared.token.Kind.TheVariants as kinds
 use Rattle.fof_lex.specs.declared.token.Token.{Token as LexToken}
-use Rattle.fof_parse.specs.declared.token.Operator.TheVariants.{Implies, ImpliedBy, Equivalent, NotEquivalent, NotAnd, NotOr, And, Or}
+use Rattle.fof_parse.specs.declared.token.Operator.TheVariants.{Implies, ImpliedBy, Equivalent, NotEquivalent, NotAnd}
+use Rattle.fof_parse.specs.declared.token.Operator.TheVariants.{NotOr, And, Or}
 use Rattle.fof_parse.specs.declared.token.Quantifier.TheVariants as quantifiers
 use Rattle.fof_parse.specs.declared.token.Equality.TheVariants.{Equal, Unequal}
 use Rattle.fof_parse.specs.declared.token.Bracket.TheVariants.{Round, Square, Curly}
 use Rattle.fof_parse.specs.declared.token.Mark.{Mark}
-use Rattle.fof_parse.specs.declared.token.Mark.TheVariants.{Open, Close, Comma, Stop, Colon, Not, Quantifier, Binary, Equality}
+use Rattle.fof_parse.specs.declared.token.Mark.TheVariants.{Open, Close, Comma, Stop, Colon, Not, Quantifier, Binary}
+use Rattle.fof_parse.specs.declared.token.Mark.TheVariants.{Equality}
 
--- A token and its text; of a quoted text what it says, without its quotes and escapes. `other` is a mark that may stand in
--- annotations alone.
+-- A token and its text; of a quoted text what it says, without its quotes and escapes. `other` is a mark that may stand
+-- in annotations alone.
 pub data Token : Type 0 where
   lower upper quoted distinct dollar number : List ℕ → Token
   marked : Mark → Token

@@ -6,9 +6,9 @@ ghost use Rattle.fol_core.specs.Symbol.{IsSymbolName};
 ghost use Rattle.fof_parse.specs.declared.token.Equality.{Equality};
 ghost use Rattle.fof_parse.specs.Grammar.{word, defined, atom, equality};
 ghost use Rattle.fof_parse.specs.Problem.{truth};
-ghost use Rattle.fof_parse.specs.Views.{symbol_of, raw_of, raws_of};
-ghost use Rattle.fof_parse.specs.Parsing.{IsProperSymbol, IsProperTerm, AreProperTerms};
-ghost use Rattle.fof_parse.specs.Building.{names, state_of, Built};
+ghost use Rattle.fof_parse.specs.Reader.Views.{symbol_of, raw_of, raws_of};
+ghost use Rattle.fof_parse.specs.Reader.Parsing.{IsProperSymbol, IsProperTerm, AreProperTerms};
+ghost use Rattle.fof_parse.specs.Reader.Building.{names, state_of, Built};
 
 use crate::build::{Draft, arity, has_backslash, term, terms, unescaped};
 use crate::refusal::BadKind;
@@ -42,7 +42,8 @@ fn dollar_atom(
     arguments: &Items<Raw<'_>>,
 ) -> Result<Formula, AllocError>
     requires { AreProperTerms (raws_of arguments.now) }
-    ensures { IfOk result (λ a. Built (names scope.now) (state_of draft.old) (state_of draft.new) (atom (defined word.now) (raws_of arguments.now)) (formula_of a)) }
+    ensures { IfOk result (λ a. Built (names scope.now) (state_of draft.old) (state_of draft.new)
+        (atom (defined word.now) (raws_of arguments.now)) (formula_of a)) }
 {
     if let Some(formula) = truth(word, arguments) {
         return Ok(formula);
@@ -62,7 +63,8 @@ fn word_atom(
 ) -> Result<Formula, AllocError>
     requires name { IsSymbolName name.now }
     requires arguments { AreProperTerms (raws_of arguments.now) }
-    ensures { IfOk result (λ a. Built (names scope.now) (state_of draft.old) (state_of draft.new) (atom (word name.now) (raws_of arguments.now)) (formula_of a)) }
+    ensures { IfOk result (λ a. Built (names scope.now) (state_of draft.old) (state_of draft.new)
+        (atom (word name.now) (raws_of arguments.now)) (formula_of a)) }
 {
     let arity = arity(arguments)?;
     let number = draft.symbols.intern_predicate(name, arity)?;
@@ -80,7 +82,8 @@ pub fn atom(
 ) -> Result<Formula, AllocError>
     requires symbol { IsProperSymbol (symbol_of symbol) }
     requires arguments { AreProperTerms (raws_of arguments.now) }
-    ensures { IfOk result (λ a. Built (names scope.now) (state_of draft.old) (state_of draft.new) (atom (symbol_of symbol.entry) (raws_of arguments.now)) (formula_of a)) }
+    ensures { IfOk result (λ a. Built (names scope.now) (state_of draft.old) (state_of draft.new)
+        (atom (symbol_of symbol.entry) (raws_of arguments.now)) (formula_of a)) }
 {
     match symbol {
         Symbol::Lower(word) => word_atom(alloc, draft, scope, word, arguments),
@@ -105,7 +108,8 @@ pub fn equation(
 ) -> Result<Formula, AllocError>
     requires left { IsProperTerm (raw_of left.now) }
     requires right { IsProperTerm (raw_of right.now) }
-    ensures { IfOk result (λ a. (e : Equality) → Built (names scope.now) (state_of draft.old) (state_of draft.new) (equality e (raw_of left.now) (raw_of right.now)) (formula_of a)) }
+    ensures { IfOk result (λ a. (e : Equality) → Built (names scope.now) (state_of draft.old) (state_of draft.new)
+        (equality e (raw_of left.now) (raw_of right.now)) (formula_of a)) }
 {
     term(alloc, draft, scope, left)?;
     draft.note(BadKind::Equality);

@@ -5,14 +5,15 @@ ghost use Rattle.fol_core.specs.View.{term_of, terms_of};
 ghost use Rattle.fof_parse.specs.Token.{unescaped};
 ghost use Rattle.fof_parse.specs.Problem.{binder, count};
 ghost use Rattle.fof_parse.specs.Refusal.{or_else};
-ghost use Rattle.fof_parse.specs.Views.{symbol_of, raw_of, raws_of};
-ghost use Rattle.fof_parse.specs.Parsing.{IsProperSymbol, IsProperTerm, AreProperTerms};
-ghost use Rattle.fof_parse.specs.Building.{has_backslash, names, state_of, Numbers, IsVariable, IsFunctionHead, TermBuilt, TermsBuilt};
+ghost use Rattle.fof_parse.specs.Reader.Views.{symbol_of, raw_of, raws_of};
+ghost use Rattle.fof_parse.specs.Reader.Parsing.{IsProperSymbol, IsProperTerm, AreProperTerms};
+ghost use Rattle.fof_parse.specs.Reader.Building.{has_backslash, names, state_of, Numbers, IsVariable, IsFunctionHead};
+ghost use Rattle.fof_parse.specs.Reader.Building.{TermBuilt, TermsBuilt};
 
 use crate::refusal::BadKind;
 use crate::term::{Raw, Symbol};
-use containers::Items;
-use fol_core::{Symbols, Term};
+use containers::{Items, Shared};
+use fol_core::{Symbols, Term, Terms};
 use std::alloc::{AllocError, Global};
 
 /// What was read of a problem so far, beside its formulas.
@@ -75,7 +76,8 @@ fn function(
     arity: u32,
 ) -> Result<Option<u32>, AllocError>
     requires { IsProperSymbol (symbol_of symbol) }
-    ensures number { IfOk result (λ n. Numbers (symbol_of symbol.entry) arity symbols.old.functions symbols.new.functions n) }
+    ensures number { IfOk result (λ n. Numbers (symbol_of symbol.entry) arity symbols.old.functions
+        symbols.new.functions n) }
     ensures predicates { symbols.new.predicates ≡ symbols.old.predicates }
 {
     match symbol {
@@ -91,24 +93,25 @@ fn function(
     }
 }
 
-/// How many quantifiers stand between the variable and its own, and None where no quantifier in scope names it.
+/// How many quantifiers stand between the variable and its own, and None where no quantifier in scope names it. The
+/// innermost is looked at first.
 fn binder(scope: &[&[u8]], word: &[u8]) -> Option<usize>
     ensures { result ≡ binder (names scope.now) word.now }
 {
-    let mut found = None;
-    for (i, name) in scope.iter().enumerate() {
-        if *name == word {
-            found = Some(scope.len() - 1 - i);
+    for i in (0..scope.len()).rev() {
+        if scope[i] == word {
+            return Some(scope.len() - 1 - i);
         }
     }
-    found
+    None
 }
 
 /// The variable of a name, where `scope` has the variables in scope, the outermost quantifier's first.
 fn variable(draft: &mut Draft, scope: &[&[u8]], word: &[u8]) -> Result<Term, AllocError>
     ensures symbols { draft.new.symbols ≡ draft.old.symbols }
     ensures fault { draft.new.fault ≡ draft.old.fault }
-    ensures term { IfOk result (λ t. IsVariable (binder (names scope.now) word.now) draft.old.is_closed draft.new.is_closed (term_of t)) }
+    ensures term { IfOk result (λ t. IsVariable (binder (names scope.now) word.now) draft.old.is_closed
+        draft.new.is_closed (term_of t)) }
 {
     let Some(count) = binder(scope, word) else {
         draft.is_closed = false;
@@ -128,7 +131,8 @@ fn function_head(
     arity: u32,
 ) -> Result<u32, AllocError>
     requires { IsProperSymbol (symbol_of symbol) }
-    ensures { IfOk result (λ n. IsFunctionHead (symbol_of symbol.entry) arity (state_of draft.old) (state_of draft.new) n) }
+    ensures { IfOk result (λ n. IsFunctionHead (symbol_of symbol.entry) arity (state_of draft.old)
+        (state_of draft.new) n) }
 {
     match function(alloc, &mut draft.symbols, symbol, arity)? {
         Some(number) => Ok(number),
@@ -158,7 +162,8 @@ pub fn term(
     raw: &Raw<'_>,
 ) -> Result<Term, AllocError>
     requires { IsProperTerm (raw_of raw.now) }
-    ensures { IfOk result (λ t. TermBuilt (names scope.now) (state_of draft.old) (state_of draft.new) (raw_of raw.now) (term_of t)) }
+    ensures { IfOk result (λ t. TermBuilt (names scope.now) (state_of draft.old) (state_of draft.new) (raw_of raw.now)
+        (term_of t)) }
 {
     match raw {
         Raw::Variable(word) => variable(draft, scope, word),
@@ -186,14 +191,15 @@ pub fn terms(
     draft: &mut Draft,
     scope: &[&[u8]],
     raws: &Items<Raw<'_>>,
-) -> Result<Items<Term>, AllocError>
+) -> Result<Terms, AllocError>
     requires { AreProperTerms (raws_of raws.now) }
-    ensures { IfOk result (λ ts. TermsBuilt (names scope.now) (state_of draft.old) (state_of draft.new) (raws_of raws.now) (terms_of ts)) }
+    ensures { IfOk result (λ ts. TermsBuilt (names scope.now) (state_of draft.old) (state_of draft.new)
+        (raws_of raws.now) (terms_of ts)) }
 {
     let mut out = Items::from_vec(Vec::with_capacity(alloc, raws.len())?);
     for raw in raws.as_slice() {
         let term = term(alloc, draft, scope, raw)?;
         out.push(term)?;
     }
-    Ok(out)
+    Shared::new(alloc, out)
 }

@@ -2,13 +2,13 @@
 
 ghost use Rattle.std.specs.Prelude.{◌≡◌, MatchResult, IfOk};
 ghost use Rattle.fol_core.specs.View.{formula_of};
-ghost use Rattle.fof_parse.specs.Text.{AreAllIn, tokens_in};
+ghost use Rattle.fof_parse.specs.Reader.Text.{AreAllIn, tokens_in};
 ghost use Rattle.fof_parse.specs.Problem.{empty_problem};
 ghost use Rattle.fof_parse.specs.ProblemParts.{plain_label};
 ghost use Rattle.fof_parse.specs.ProblemView.{plain_contents, plain_problem};
 ghost use Rattle.fof_parse.specs.Kept.{IsKept};
 ghost use Rattle.fof_parse.specs.Refusal.{IsBad};
-ghost use Rattle.fof_parse.specs.Chunks.{has_conjecture, Puts, Takes};
+ghost use Rattle.fof_parse.specs.Reader.Chunks.{has_conjecture, Puts, Takes};
 
 use crate::build::Draft;
 use crate::problem::{Problem, Statement, Statements};
@@ -66,7 +66,8 @@ fn with_formula(
     statement: Statement,
     formula: Formula,
 ) -> Result<Contents, AllocError>
-    ensures { IfOk result (λ next. Puts (plain_contents contents) (plain_label statement) (formula_of formula) (plain_contents next)) }
+    ensures { IfOk result (λ next. Puts (plain_contents contents) (plain_label statement) (formula_of formula)
+        (plain_contents next)) }
 {
     let role = statement.role;
     let mut contents = contents;

@@ -1,24 +1,25 @@
 //! What ends a statement, and how deep its tokens nest.
 
 ghost use Rattle.std.specs.Prelude.{◌≡◌, ◌≤◌, [], nat_lt, reverse, IfOk, option_map};
-ghost use Rattle.fof_parse.specs.Text.{AreIn, from};
+ghost use Rattle.fof_parse.specs.Reader.Text.{AreIn, from};
 ghost use Rattle.fof_parse.specs.Nesting.{count_behind, kept_behind, nesting, most_nesting};
-ghost use Rattle.fof_parse.specs.Views.{token_view};
-ghost use Rattle.fof_parse.specs.Reading.{behind_balanced, begins_closed, is_bare, is_annotated, is_ending};
+ghost use Rattle.fof_parse.specs.Reader.Views.{token_view};
+ghost use Rattle.fof_parse.specs.Reader.Reading.{behind_balanced, begins_closed, is_bare, is_annotated, is_ending};
 
 use crate::text::{Text, after_mark, token_at};
 use crate::token::{Bracket, Mark, Token};
 use std::alloc::{AllocError, Global};
 
-/// How large the nesting count of a statement may become. It begins at 0. `(`, `~`, the quantifiers, the operators and the upper
-/// words add 1, and `)` sets it back to what it was before its `(`.
+/// How large the nesting count of a statement may become. It begins at 0. `(`, `~`, the quantifiers, the operators and
+/// the upper words add 1, and `)` sets it back to what it was before its `(`.
 pub const MAX_NESTING: u32 = 500;
 
 /// The nesting count behind a token, where `kept` has what the open parentheses keep.
 fn count_behind(token: Token<'_>, count: u32, kept: &mut Vec<u32>) -> Result<u32, AllocError>
     requires { count ≤ most_nesting }
     ensures count { IfOk result (λ n. n ≡ count_behind count (reverse kept.old.items) (token_view token.entry)) }
-    ensures kept { IfOk result (λ n. reverse kept.new.items ≡ kept_behind count (reverse kept.old.items) (token_view token.entry)) }
+    ensures kept { IfOk result (λ n. reverse kept.new.items
+        ≡ kept_behind count (reverse kept.old.items) (token_view token.entry)) }
 {
     match token {
         Token::Marked(Mark::Open(Bracket::Round)) => {
@@ -52,8 +53,8 @@ pub fn nests_too_deep(alloc: Global, text: &Text<'_>) -> Result<bool, AllocError
     Ok(false)
 }
 
-/// The place of the bracket that closes none of those which open behind a place. None where brackets do not match, or a full
-/// stop or the end comes first.
+/// The place of the bracket that closes none of those which open behind a place. None where brackets do not match, or a
+/// full stop or the end comes first.
 fn behind_balanced(alloc: Global, text: &Text<'_>, at: usize) -> Result<Option<usize>, AllocError>
     requires { AreIn text.now }
     ensures { IfOk result (λ place. option_map (λ n. from text.now n) place ≡ behind_balanced [] (from text.now at)) }

@@ -1,24 +1,27 @@
 //! Reading formulas from the left.
 //!
-//! A formula may be deep to the left without a limit: a chain is read in a loop. What is read by calls, `~`, quantifiers and
-//! their variables, `(`, and the unit behind an operator, adds to the nesting count of the statement, which was tested before.
+//! A formula may be deep to the left without a limit: a chain is read in a loop. What is read by calls, `~`,
+//! quantifiers and their variables, `(`, and the unit behind an operator, adds to the nesting count of the statement,
+//! which was tested before.
 
 ghost use Rattle.std.specs.Prelude.{◌≡◌, ◌+◌, ◌<◌, None, Some, length, MatchOption, IfOk, IfSome, option_map};
 ghost use Rattle.fol_core.specs.View.{formula_of};
 ghost use Rattle.fol_core.specs.Syntax.{not};
-ghost use Rattle.fof_parse.specs.Text.{AreIn, from};
-ghost use Rattle.fof_parse.specs.Reading.{one_token, negation_lead, group_lead, quantifier_lead, lead_of, equality_of, operator_of, variable_of, repeats, can_join, next_operator};
+ghost use Rattle.fof_parse.specs.Reader.Text.{AreIn, from};
+ghost use Rattle.fof_parse.specs.Reader.Reading.{one_token, negation_lead, group_lead, quantifier_lead, lead_of};
+ghost use Rattle.fof_parse.specs.Reader.Reading.{equality_of};
+ghost use Rattle.fof_parse.specs.Reader.Reading.{operator_of, variable_of, repeats, can_join, next_operator};
 ghost use Rattle.fof_parse.specs.Problem.{plain_binary, plain_quantified};
-ghost use Rattle.fof_parse.specs.Views.{lead_view};
-ghost use Rattle.fof_parse.specs.Parsing.{ReadsUnit, ReadsBound, ReadsScope, ReadsBody, ReadsFormula, Parsed};
-ghost use Rattle.fof_parse.specs.Building.{names, state_of};
+ghost use Rattle.fof_parse.specs.Reader.Views.{lead_view};
+ghost use Rattle.fof_parse.specs.Reader.Parsing.{ReadsUnit, ReadsBound, ReadsScope, ReadsBody, ReadsFormula, Parsed};
+ghost use Rattle.fof_parse.specs.Reader.Building.{names, state_of};
 
 use crate::atom::{atom, equation};
 use crate::build::Draft;
 use crate::term::{Raw, TermFront, term_at};
 use crate::text::{Text, after_mark, token_at};
 use crate::token::{Bracket, Equality, Mark, Operator, Quantifier, Token};
-use containers::Boxed;
+use containers::Shared;
 use fol_core::Formula;
 use std::alloc::{AllocError, Global};
 
@@ -39,7 +42,8 @@ enum Lead {
 
 fn lead_at(text: &Text<'_>, at: usize) -> Option<Lead>
     requires { AreIn text.now }
-    ensures lead { option_map (λ l. (lead_view l, from text.now (at + 1))) result ≡ one_token lead_of (from text.now at) }
+    ensures lead { option_map (λ l. (lead_view l, from text.now (at + 1))) result
+        ≡ one_token lead_of (from text.now at) }
     ensures within { IfSome result (λ l. at < length text.now.tokens.now) }
 {
     match token_at(text, at)? {
@@ -63,7 +67,8 @@ fn equality_at(text: &Text<'_>, at: usize) -> Option<Equality>
 
 fn operator_at(text: &Text<'_>, at: usize) -> Option<Operator>
     requires { AreIn text.now }
-    ensures operator { option_map (λ op. (op, from text.now (at + 1))) result ≡ one_token operator_of (from text.now at) }
+    ensures operator { option_map (λ op. (op, from text.now (at + 1))) result
+        ≡ one_token operator_of (from text.now at) }
     ensures within { IfSome result (λ op. at < length text.now.tokens.now) }
 {
     match token_at(text, at)? {
@@ -74,7 +79,8 @@ fn operator_at(text: &Text<'_>, at: usize) -> Option<Operator>
 
 fn variable_at<'a>(text: &Text<'a>, at: usize) -> Option<&'a [u8]>
     requires { AreIn text.now }
-    ensures variable { option_map (λ w. (w.now, from text.now (at + 1))) result ≡ one_token variable_of (from text.now at) }
+    ensures variable { option_map (λ w. (w.now, from text.now (at + 1))) result
+        ≡ one_token variable_of (from text.now at) }
     ensures within { IfSome result (λ w. at < length text.now.tokens.now) }
 {
     match token_at(text, at)? {
@@ -114,15 +120,15 @@ fn next_operator(text: &Text<'_>, by: Option<Operator>, at: usize) -> Option<Ope
 pub fn negated(alloc: Global, formula: Formula) -> Result<Formula, AllocError>
     ensures { IfOk result (λ f. formula_of f ≡ not (formula_of formula)) }
 {
-    Ok(Formula::Not(Boxed::new(alloc, formula)?))
+    Ok(Formula::Not(Shared::new(alloc, formula)?))
 }
 
 /// Both formulas joined by the operator.
 fn joined(alloc: Global, op: Operator, left: Formula, right: Formula) -> Result<Formula, AllocError>
     ensures { IfOk result (λ f. formula_of f ≡ plain_binary op (formula_of left) (formula_of right)) }
 {
-    let left = Boxed::new(alloc, left)?;
-    let right = Boxed::new(alloc, right)?;
+    let left = Shared::new(alloc, left)?;
+    let right = Shared::new(alloc, right)?;
     match op {
         Operator::Implies => Ok(Formula::Imp(left, right)),
         Operator::ImpliedBy => Ok(Formula::Imp(right, left)),
@@ -138,7 +144,7 @@ fn joined(alloc: Global, op: Operator, left: Formula, right: Formula) -> Result<
 fn quantified(alloc: Global, quantifier: Quantifier, body: Formula) -> Result<Formula, AllocError>
     ensures { IfOk result (λ f. formula_of f ≡ plain_quantified quantifier (formula_of body)) }
 {
-    let body = Boxed::new(alloc, body)?;
+    let body = Shared::new(alloc, body)?;
     Ok(match quantifier {
         Quantifier::All => Formula::All(body),
         Quantifier::Some => Formula::Ex(body),
@@ -157,7 +163,8 @@ fn atomic_at<'a>(
     requires lead { one_token lead_of (from text.now at) ≡ None }
     ensures { IfOk result (λ front. MatchOption front
         (ReadsUnit (from text.now at) None)
-        (λ f. Parsed (ReadsUnit (from text.now at)) (names scope.now) (state_of draft.old) (state_of draft.new) (formula_of f.formula) (from text.now f.next) × (at < f.next))) }
+        (λ f. Parsed (ReadsUnit (from text.now at)) (names scope.now) (state_of draft.old) (state_of draft.new)
+        (formula_of f.formula) (from text.now f.next) × (at < f.next))) }
 {
     let Some(TermFront { term: left, next }) = term_at(alloc, text, at)? else {
         return Ok(None);
@@ -180,7 +187,8 @@ fn atomic_at<'a>(
     }
 }
 
-/// The unit at a place, or None where none stands there. `scope` has the variables in scope, the outermost quantifier's first.
+/// The unit at a place, or None where none stands there. `scope` has the variables in scope, the outermost quantifier's
+/// first.
 #[cycle(reading)]
 fn unit_at<'a>(
     alloc: Global,
@@ -193,7 +201,8 @@ fn unit_at<'a>(
     ensures scope { IfOk result (λ front. scope.new.items ≡ scope.old.items) }
     ensures unit { IfOk result (λ front. MatchOption front
         (ReadsUnit (from text.now at) None)
-        (λ f. Parsed (ReadsUnit (from text.now at)) (names scope.old.items) (state_of draft.old) (state_of draft.new) (formula_of f.formula) (from text.now f.next) × (at < f.next))) }
+        (λ f. Parsed (ReadsUnit (from text.now at)) (names scope.old.items) (state_of draft.old) (state_of draft.new)
+        (formula_of f.formula) (from text.now f.next) × (at < f.next))) }
 {
     match lead_at(text, at) {
         None => atomic_at(alloc, text, draft, scope.as_slice(), at),
@@ -218,7 +227,8 @@ fn negation_at<'a>(
     ensures scope { IfOk result (λ front. scope.new.items ≡ scope.old.items) }
     ensures unit { IfOk result (λ front. MatchOption front
         (ReadsUnit (from text.now at) None)
-        (λ f. Parsed (ReadsUnit (from text.now at)) (names scope.old.items) (state_of draft.old) (state_of draft.new) (formula_of f.formula) (from text.now f.next) × (at < f.next))) }
+        (λ f. Parsed (ReadsUnit (from text.now at)) (names scope.old.items) (state_of draft.old) (state_of draft.new)
+        (formula_of f.formula) (from text.now f.next) × (at < f.next))) }
 {
     let Some(Front { formula, next }) = unit_at(alloc, text, draft, scope, at + 1)? else {
         return Ok(None);
@@ -242,7 +252,8 @@ fn group_at<'a>(
     ensures scope { IfOk result (λ front. scope.new.items ≡ scope.old.items) }
     ensures unit { IfOk result (λ front. MatchOption front
         (ReadsUnit (from text.now at) None)
-        (λ f. Parsed (ReadsUnit (from text.now at)) (names scope.old.items) (state_of draft.old) (state_of draft.new) (formula_of f.formula) (from text.now f.next) × (at < f.next))) }
+        (λ f. Parsed (ReadsUnit (from text.now at)) (names scope.old.items) (state_of draft.old) (state_of draft.new)
+        (formula_of f.formula) (from text.now f.next) × (at < f.next))) }
 {
     let Some(Front { formula, next }) = formula_at(alloc, text, draft, scope, at + 1)? else {
         return Ok(None);
@@ -269,7 +280,8 @@ fn quantified_at<'a>(
     ensures scope { IfOk result (λ front. scope.new.items ≡ scope.old.items) }
     ensures unit { IfOk result (λ front. MatchOption front
         (ReadsUnit (from text.now at) None)
-        (λ f. Parsed (ReadsUnit (from text.now at)) (names scope.old.items) (state_of draft.old) (state_of draft.new) (formula_of f.formula) (from text.now f.next) × (at < f.next))) }
+        (λ f. Parsed (ReadsUnit (from text.now at)) (names scope.old.items) (state_of draft.old) (state_of draft.new)
+        (formula_of f.formula) (from text.now f.next) × (at < f.next))) }
 {
     let Some(inner) = after_mark(text, at + 1, Mark::Open(Bracket::Square)) else {
         return Ok(None);
@@ -294,7 +306,8 @@ fn scope_at<'a>(
     ensures scope { IfOk result (λ front. scope.new.items ≡ scope.old.items) }
     ensures unit { IfOk result (λ front. MatchOption front
         (ReadsScope quantifier (from text.now at) None)
-        (λ f. Parsed (ReadsScope quantifier (from text.now at)) (names scope.old.items) (state_of draft.old) (state_of draft.new) (formula_of f.formula) (from text.now f.next) × (at < f.next))) }
+        (λ f. Parsed (ReadsScope quantifier (from text.now at)) (names scope.old.items) (state_of draft.old)
+        (state_of draft.new) (formula_of f.formula) (from text.now f.next) × (at < f.next))) }
 {
     let Some(name) = variable_at(text, at) else {
         return Ok(None);
@@ -323,7 +336,8 @@ fn bound_at<'a>(
     ensures scope { IfOk result (λ front. scope.new.items ≡ scope.old.items) }
     ensures unit { IfOk result (λ front. MatchOption front
         (ReadsBound quantifier (from text.now at) None)
-        (λ f. Parsed (ReadsBound quantifier (from text.now at)) (names scope.old.items) (state_of draft.old) (state_of draft.new) (formula_of f.formula) (from text.now f.next) × (at < f.next))) }
+        (λ f. Parsed (ReadsBound quantifier (from text.now at)) (names scope.old.items) (state_of draft.old)
+        (state_of draft.new) (formula_of f.formula) (from text.now f.next) × (at < f.next))) }
 {
     if let Some(more) = after_mark(text, at, Mark::Comma) {
         return scope_at(alloc, text, draft, scope, quantifier, more);
@@ -350,7 +364,8 @@ pub fn formula_at<'a>(
     ensures scope { IfOk result (λ front. scope.new.items ≡ scope.old.items) }
     ensures formula { IfOk result (λ front. MatchOption front
         (ReadsFormula (from text.now at) None)
-        (λ f. Parsed (ReadsFormula (from text.now at)) (names scope.old.items) (state_of draft.old) (state_of draft.new) (formula_of f.formula) (from text.now f.next) × (at < f.next))) }
+        (λ f. Parsed (ReadsFormula (from text.now at)) (names scope.old.items) (state_of draft.old) (state_of draft.new)
+        (formula_of f.formula) (from text.now f.next) × (at < f.next))) }
 {
     let Some(first) = unit_at(alloc, text, draft, scope, at)? else {
         return Ok(None);

@@ -19,7 +19,7 @@ mod token;
 mod verdict;
 
 pub use ending::MAX_NESTING;
-pub use law::one_answer;
+pub use law::{closed_start, one_answer};
 pub use lines::refusal_line;
 pub use problem::{Problem, Statement, Statements};
 pub use read::{MAX_BYTES, ReadError, read_problem};

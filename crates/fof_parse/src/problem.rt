@@ -17,7 +17,8 @@ pub struct Statement {
 
 pub type Statements = Items<Statement>;
 
-/// What a text says: the axioms as they stand, and the conjecture as it stands. Their formulas are closed and use the symbols alone.
+/// What a text says: the axioms as they stand, and the conjecture as it stands. Their formulas are closed and use the
+/// symbols alone.
 #[derive(Drop)]
 pub struct Problem {
     pub symbols: Symbols,

@@ -4,9 +4,9 @@ ghost use Rattle.std.specs.Prelude.{◌≡◌, ◌≢◌, ◌↔◌, ◌<◌, �
 ghost use Rattle.fof_lex.specs.Lexer.{place};
 ghost use Rattle.fof_lex.specs.Refusal.{IsRefusalAt};
 ghost use Rattle.fof_parse.specs.TheProblem.{IsProblemText, IsTheProblem, IsNoProblem};
-ghost use Rattle.fof_parse.specs.Text.{AreAllIn};
+ghost use Rattle.fof_parse.specs.Reader.Text.{AreAllIn};
 ghost use Rattle.fof_parse.specs.ProblemView.{plain_contents, plain_problem};
-ghost use Rattle.fof_parse.specs.Chunks.{is_stop_kind, IsNext};
+ghost use Rattle.fof_parse.specs.Reader.Chunks.{is_stop_kind, IsNext};
 ghost use Rattle.fof_parse.specs.Refused.{Refuses};
 
 use crate::contents::{Contents, empty_contents, problem_of, with_statement};
@@ -111,7 +111,8 @@ fn read_statements(alloc: Global, bytes: &[u8]) -> Result<Contents, ReadError>
     }
 }
 
-/// Reads a problem in the first-order form of TPTP. But for want of memory it is refused exactly where the text is no problem.
+/// Reads a problem in the first-order form of TPTP. But for want of memory it is refused exactly where the text is no
+/// problem.
 pub fn read_problem(alloc: Global, bytes: &[u8]) -> Result<Problem, ReadError>
     ensures problem { IfOk result (λ p. IsTheProblem bytes.now (plain_problem p)) }
     ensures refused { IfErr result (Refuses bytes.now) }

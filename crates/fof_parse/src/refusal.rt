@@ -1,7 +1,7 @@
 //! Why a text is no problem.
 
-/// Why a statement is refused. Where more than one of these fits, it is the first of them; of an equality, a number, a distinct
-/// object and a dollar word it is the one that stands leftmost in the formula.
+/// Why a statement is refused. Where more than one of these fits, it is the first of them; of an equality, a number, a
+/// distinct object and a dollar word it is the one that stands leftmost in the formula.
 #[derive(Clone, Copy, Debug, PartialEq, Eq)]
 pub enum BadKind {
     /// An `include`.

@@ -16,7 +16,7 @@ fn copies(alloc: Global, formulas: &Formulas) -> Result<Formulas, AllocError>
 {
     let mut out = Items::new(alloc);
     for f in formulas.as_slice() {
-        let copy = f.copy(alloc)?;
+        let copy = f.copy()?;
         out.push(copy)?;
     }
     Ok(out)
@@ -28,7 +28,7 @@ pub fn start_list(alloc: Global, problem: &Problem) -> Result<Formulas, AllocErr
 {
     let mut list = copies(alloc, &problem.axioms)?;
     if let Some(conjecture) = &problem.conjecture {
-        list.push(negated(alloc, conjecture.copy(alloc)?)?)?;
+        list.push(negated(alloc, conjecture.copy()?)?)?;
     }
     Ok(list)
 }

@@ -5,9 +5,9 @@ ghost use Rattle.std.specs.List.{list_all};
 ghost use Rattle.fof_lex.specs.Bytes.{is_digit};
 ghost use Rattle.fof_parse.specs.Grammar.{is_integer, name_of};
 ghost use Rattle.fof_parse.specs.Problem.{role_of};
-ghost use Rattle.fof_parse.specs.Text.{AreIn, from};
-ghost use Rattle.fof_parse.specs.Reading.{one_token, lower_of, fof_of, heading_at};
-ghost use Rattle.fof_parse.specs.Views.{named};
+ghost use Rattle.fof_parse.specs.Reader.Text.{AreIn, from};
+ghost use Rattle.fof_parse.specs.Reader.Reading.{one_token, lower_of, fof_of, heading_at};
+ghost use Rattle.fof_parse.specs.Reader.Views.{named};
 
 use crate::build::unescaped;
 use crate::text::{Text, after_mark, token_at};
@@ -122,10 +122,11 @@ pub struct Heading<'a> {
 }
 
 /// What a statement begins with.
-#[tactic(auto, unfolding(crate::specs::Reading::heading_at))]
+#[tactic(auto, unfolding(crate::specs::Reader::Reading::heading_at))]
 pub fn heading_of<'a>(text: &Text<'a>) -> Option<Heading<'a>>
     requires { AreIn text.now }
-    ensures { option_map (λ h. ((named h.name, h.role.now), from text.now h.next)) result ≡ heading_at (from text.now 0) }
+    ensures { option_map (λ h. ((named h.name, h.role.now), from text.now h.next)) result
+        ≡ heading_at (from text.now 0) }
 {
     fof_at(text, 0)?;
     let opened = after_mark(text, 1, Mark::Open(Bracket::Round))?;

@@ -5,10 +5,11 @@
 //! was tested before.
 
 ghost use Rattle.std.specs.Prelude.{◌≡◌, ◌+◌, ◌<◌, None, Some, length, MatchOption, IfOk, IfSome, option_map};
-ghost use Rattle.fof_parse.specs.Text.{AreIn, from};
-ghost use Rattle.fof_parse.specs.Reading.{one_token, head_of, symbol_head};
-ghost use Rattle.fof_parse.specs.Views.{head_view, symbol_of, raw_of, raws_of};
-ghost use Rattle.fof_parse.specs.Parsing.{ReadsTerm, ReadsTerms, IsProperSymbol, IsProperHead, IsProperTerm, AreProperTerms};
+ghost use Rattle.fof_parse.specs.Reader.Text.{AreIn, from};
+ghost use Rattle.fof_parse.specs.Reader.Reading.{one_token, head_of, symbol_head};
+ghost use Rattle.fof_parse.specs.Reader.Views.{head_view, symbol_of, raw_of, raws_of};
+ghost use Rattle.fof_parse.specs.Reader.Parsing.{ReadsTerm, ReadsTerms, IsProperSymbol, IsProperHead, IsProperTerm};
+ghost use Rattle.fof_parse.specs.Reader.Parsing.{AreProperTerms};
 
 use crate::text::{Text, after_mark, token_at};
 use crate::token::{Bracket, Mark, Token};
@@ -45,7 +46,8 @@ enum Head<'a> {
 /// What the term at a place begins with.
 fn head_at<'a>(text: &Text<'a>, at: usize) -> Option<Head<'a>>
     requires { AreIn text.now }
-    ensures head { option_map (λ h. (head_view h, from text.now (at + 1))) result ≡ one_token head_of (from text.now at) }
+    ensures head { option_map (λ h. (head_view h, from text.now (at + 1))) result
+        ≡ one_token head_of (from text.now at) }
     ensures proper { IfSome result (λ h. IsProperHead (head_view h)) }
     ensures within { IfSome result (λ h. at < length text.now.tokens.now) }
 {
@@ -84,7 +86,8 @@ pub fn term_at<'a>(
     requires { AreIn text.now }
     ensures { IfOk result (λ front. MatchOption front
         (ReadsTerm (from text.now at) None)
-        (λ f. ReadsTerm (from text.now at) (Some (raw_of f.term, from text.now f.next)) × IsProperTerm (raw_of f.term) × (at < f.next))) }
+        (λ f. ReadsTerm (from text.now at) (Some (raw_of f.term, from text.now f.next)) × IsProperTerm (raw_of f.term)
+        × (at < f.next))) }
 {
     let Some(head) = head_at(text, at) else {
         return Ok(None);
@@ -115,12 +118,14 @@ fn applied_at<'a>(
     at: usize,
 ) -> Result<Option<TermFront<'a>>, AllocError>
     requires text { AreIn text.now }
-    requires symbol { one_token head_of (from text.now at) ≡ Some (symbol_head (symbol_of symbol), from text.now (at + 1)) }
+    requires symbol { one_token head_of (from text.now at)
+        ≡ Some (symbol_head (symbol_of symbol), from text.now (at + 1)) }
     requires proper { IsProperSymbol (symbol_of symbol) }
     requires within { at < length text.now.tokens.now }
     ensures { IfOk result (λ front. MatchOption front
         (ReadsTerm (from text.now at) None)
-        (λ f. ReadsTerm (from text.now at) (Some (raw_of f.term, from text.now f.next)) × IsProperTerm (raw_of f.term) × (at < f.next))) }
+        (λ f. ReadsTerm (from text.now at) (Some (raw_of f.term, from text.now f.next)) × IsProperTerm (raw_of f.term)
+        × (at < f.next))) }
 {
     let Some(inner) = after_mark(text, at + 1, Mark::Open(Bracket::Round)) else {
         let term = Raw::Applied(symbol, Items::new(alloc));
@@ -148,7 +153,8 @@ fn terms_at<'a>(
     requires { AreIn text.now }
     ensures { IfOk result (λ front. MatchOption front
         (ReadsTerms (from text.now at) None)
-        (λ f. ReadsTerms (from text.now at) (Some (raws_of f.terms, from text.now f.next)) × AreProperTerms (raws_of f.terms) × (at < f.next))) }
+        (λ f. ReadsTerms (from text.now at) (Some (raws_of f.terms, from text.now f.next)) × AreProperTerms
+        (raws_of f.terms) × (at < f.next))) }
 {
     let mut terms = Items::new(alloc);
     let mut at = at;

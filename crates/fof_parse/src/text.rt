@@ -1,9 +1,9 @@
 //! The tokens of a statement.
 
 ghost use Rattle.std.specs.Prelude.{◌≡◌, ◌<◌, ◌+◌, [], ◌∷◌, length, option_map, MatchOption, IfSome};
-ghost use Rattle.fof_parse.specs.Text.{AreIn, from, IsProper};
-ghost use Rattle.fof_parse.specs.Reading.{after_mark};
-ghost use Rattle.fof_parse.specs.Views.{token_view};
+ghost use Rattle.fof_parse.specs.Reader.Text.{AreIn, from, IsProper};
+ghost use Rattle.fof_parse.specs.Reader.Reading.{after_mark};
+ghost use Rattle.fof_parse.specs.Reader.Views.{token_view};
 
 use crate::token::{Mark, Token, token_of};
 
@@ -17,7 +17,8 @@ pub struct Text<'a> {
 /// The token at a place, and None where the tokens are at their end.
 pub fn token_at<'a>(text: &Text<'a>, at: usize) -> Option<Token<'a>>
     requires { AreIn text.now }
-    ensures token { MatchOption result (from text.now at ≡ []) (λ t. (from text.now at ≡ token_view t ∷ from text.now (at + 1)) × (at < length text.now.tokens.now)) }
+    ensures token { MatchOption result (from text.now at ≡ [])
+        (λ t. (from text.now at ≡ token_view t ∷ from text.now (at + 1)) × (at < length text.now.tokens.now)) }
     ensures proper { IfSome result (λ t. IsProper (token_view t)) }
 {
     let token = text.tokens.get(at)?;

@@ -2,7 +2,7 @@
 
 ghost use Rattle.std.specs.Prelude.{◌≡◌};
 ghost use Rattle.fof_parse.specs.Token.{between, mark_of, connective_of, token_of};
-ghost use Rattle.fof_parse.specs.Views.{token_view};
+ghost use Rattle.fof_parse.specs.Reader.Views.{token_view};
 
 use fof_lex::{Connective, Kind};
 

@@ -3,11 +3,11 @@
 ghost use Rattle.std.specs.Prelude.{◌≡◌, true, Some, None, MatchOption, MatchResult, IfOk};
 ghost use Rattle.fol_core.specs.View.{formula_of};
 ghost use Rattle.fof_parse.specs.Problem.{role_of};
-ghost use Rattle.fof_parse.specs.Text.{AreIn, from};
+ghost use Rattle.fof_parse.specs.Reader.Text.{AreIn, from};
 ghost use Rattle.fof_parse.specs.Refusal.{first_fault, is_other_language, early_fault, IsBad};
-ghost use Rattle.fof_parse.specs.Views.{named};
-ghost use Rattle.fof_parse.specs.Building.{state_of};
-ghost use Rattle.fof_parse.specs.Verdict.{StatementRead, IsNoStatement, judged, GoodRead};
+ghost use Rattle.fof_parse.specs.Reader.Views.{named};
+ghost use Rattle.fof_parse.specs.Reader.Building.{state_of};
+ghost use Rattle.fof_parse.specs.Reader.Verdict.{StatementRead, IsNoStatement, judged, GoodRead};
 
 use crate::build::Draft;
 use crate::ending::{is_ending, nests_too_deep};
@@ -80,7 +80,8 @@ fn parts_of<'a>(
     requires { AreIn text.now }
     ensures { IfOk result (λ parts. MatchOption parts
         (IsNoStatement (from text.now 0))
-        (λ p. StatementRead (from text.now 0) (state_of draft.old) (state_of draft.new) (named p.name) p.role.now (formula_of p.formula))) }
+        (λ p. StatementRead (from text.now 0) (state_of draft.old) (state_of draft.new) (named p.name) p.role.now
+        (formula_of p.formula))) }
 {
     let Some(Heading { name, role, next }) = heading_of(text) else {
         return Ok(None);
@@ -140,7 +141,8 @@ pub fn verdict<'a>(
     requires no_fault { draft.old.fault ≡ None }
     requires closed { draft.old.is_closed ≡ true }
     ensures { IfOk result (λ v. MatchResult v
-        (λ g. GoodRead had (from text.now 0) (state_of draft.old) (state_of draft.new) (named g.name) g.role (formula_of g.formula))
+        (λ g. GoodRead had (from text.now 0) (state_of draft.old) (state_of draft.new) (named g.name) g.role
+        (formula_of g.formula))
         (λ k. IsBad had (from text.now 0) k)) }
 {
     if let Some(kind) = early_fault(alloc, text)? {

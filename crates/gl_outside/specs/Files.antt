@@ -25,7 +25,9 @@ pub record FaultyFiles : Type 0 where
   pub faults : ℕ
 
 abbrev pub faulty_code : Coded FaultyFiles
-faulty_code = code_by (List NamedBytes × ℕ) (coded× named_code coded_ℕ) (λ f. (f.files, f.faults)) (λ p. record { files = p.0; faults = p.1 }) (λ _. refl)
+faulty_code =
+    code_by (List NamedBytes × ℕ) (coded× named_code coded_ℕ) (λ f. (f.files, f.faults))
+    (λ p. record { files = p.0; faults = p.1 }) (λ _. refl)
 
 -- what was written, how many bytes more have room, and how many calls have failed
 pub record RoomyBytes : Type 0 where
@@ -35,4 +37,5 @@ pub record RoomyBytes : Type 0 where
 
 abbrev pub roomy_code : Coded RoomyBytes
 roomy_code =
-    code_by (List ℕ × (ℕ × ℕ)) (coded× (coded_list coded_ℕ) (coded× coded_ℕ coded_ℕ)) (λ r. (r.bytes, (r.spare, r.faults))) (λ p. record { bytes = p.0; spare = p.1.0; faults = p.1.1 }) (λ _. refl)
+    code_by (List ℕ × (ℕ × ℕ)) (coded× (coded_list coded_ℕ) (coded× coded_ℕ coded_ℕ))
+    (λ r. (r.bytes, (r.spare, r.faults))) (λ p. record { bytes = p.0; spare = p.1.0; faults = p.1.1 }) (λ _. refl)

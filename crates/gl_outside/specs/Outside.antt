@@ -1,5 +1,6 @@
 -- What is said of the world outside: bytes that may be told, and counts of faults.
-use Rattle.std.specs.Prelude.{◌≡◌, ℕ, ◌-◌, ◌^◌, ◌<◌, ◌≤◌, ◌⊎◌, List, ◌++◌, length, take, Option, Some, None}
+use Rattle.std.specs.Prelude.{◌≡◌, ℕ, ◌-◌, ◌^◌, ◌<◌, ◌≤◌, ◌⊎◌, List, ◌++◌, length, take}
+use Rattle.std.specs.Prelude.{Option, Some, None}
 
 -- the value at which a count of faults stays
 abbrev pub last_count : ℕ

@@ -1,3 +1,5 @@
+//! Named bytes in memory.
+
 ghost use Rattle.std.specs.Prelude.{◌≡◌, [], ◌∷◌, ◌++◌, OnOk, OnErr, string_bytes, option_map};
 ghost use Rattle.gl_outside.specs.Files.{bytes_of};
 

@@ -24,7 +24,7 @@ fn fault_of(e: io::Error) -> FetchError
 
 /// All that a reader gives from here on, if it is at most `max` bytes. It reads on until the reader gives
 /// nothing, or one byte too many.
-pub fn read_up_to<R: Read + Drop>(alloc: Global, reader: R, max: u64) -> Result<Vec<u8>, FetchError>
+fn read_up_to<R: Read + Drop>(alloc: Global, reader: R, max: u64) -> Result<Vec<u8>, FetchError>
     ensures bytes { IfOk result (λ v. IfSome (R.remaining reader) (λ bytes. v.items ≡ bytes)) }
     ensures within { IfOk result (λ v. vec_len v ≤ max) }
     ensures too_long { result ≡ Err error.TooLong

@@ -9,7 +9,7 @@ mod sink;
 mod sound;
 
 pub use files::Files;
-pub use host::{HostShelf, HostSink, read_up_to};
+pub use host::{HostShelf, HostSink};
 pub use memory::{MemoryShelf, MemorySink};
 pub use shelf::{FetchError, Shelf};
 pub use sink::{Sink, SinkFailed};

@@ -1,4 +1,7 @@
-ghost use Rattle.std.specs.Prelude.{◌≡◌, ◌≢◌, ◌↔◌, ℕ, ◌+◌, ◌≤◌, List, [], None, Some, IfOk, IfSome, IsOk, OnOk, OnErr, length, vec_len};
+//! A shelf and a sink in memory, with faults.
+
+ghost use Rattle.std.specs.Prelude.{◌≡◌, ◌≢◌, ◌↔◌, ℕ, ◌+◌, ◌≤◌, List, [], ◌++◌, take, length, vec_len};
+ghost use Rattle.std.specs.Prelude.{None, Some, IfOk, IfSome, IsOk, OnOk, OnErr};
 ghost use Rattle.gl_outside.specs.Outside.{HasRisen, Appends, AppendsFront};
 ghost use Rattle.gl_outside.specs.Files.{bytes_of};
 ghost use Rattle.gl_outside.specs.declared.shelf.FetchError.TheVariants as error;
@@ -53,6 +56,7 @@ impl Shelf for MemoryShelf {
         ensures no_fault { result ≢ Err error.Failed → self.new.faults ≡ self.old.faults }
         ensures count { self.old.faults ≤ self.new.faults }
         ensures kept { (other : List ℕ) → bytes_of self.new.files other ≡ bytes_of self.old.files other }
+        ensures files { self.new.files ≡ self.old.files }
         ensures missing { (result ≡ Err error.Failed) ↔ (bytes_of self.old.files name.now ≡ None) }
     {
         match self.files.find(name) {
@@ -127,7 +131,8 @@ impl Sink for MemorySink {
 
     ghost faults = { λ s. s.faults };
 
-    /// Takes the bytes, as every sink does. It fails exactly where they have no room, and is then full.
+    /// Takes the bytes, as every sink does. It fails exactly where they have no room, and what it took then fills the
+    /// room.
     fn put(&mut self, bytes: &[u8]) -> Result<(), SinkFailed>
         ensures ok { OnOk result (Appends (Some self.old.bytes) bytes.now (Some self.new.bytes)) }
         ensures no_fault { OnOk result (self.new.faults ≡ self.old.faults) }
@@ -135,6 +140,8 @@ impl Sink for MemorySink {
         ensures failed { OnErr result (HasRisen self.old.faults self.new.faults) }
         ensures count { self.old.faults ≤ self.new.faults }
         ensures fits { IsOk result ↔ (length bytes.now ≤ self.old.spare) }
+        ensures room { OnOk result (self.old.spare ≡ length bytes.now + self.new.spare) }
+        ensures filled { OnErr result (self.new.bytes ≡ self.old.bytes ++ take self.old.spare bytes.now) }
         ensures full { OnErr result (self.new.spare ≡ 0) }
     {
         let spare = self.room - self.bytes.len();

@@ -1,4 +1,7 @@
-ghost use Rattle.std.specs.Prelude.{◌≡◌, ◌≢◌, ℕ, ◌+◌, ◌≤◌, List, Option, IfOk, IfSome, length, vec_len};
+//! What gives the bytes of a name.
+
+ghost use Rattle.std.specs.Prelude.{◌≡◌, ◌≢◌, ℕ, ◌+◌, ◌≤◌, List, Option};
+ghost use Rattle.std.specs.Prelude.{IfOk, IfSome, length, vec_len};
 ghost use Rattle.gl_outside.specs.Outside.{HasRisen};
 ghost use Rattle.gl_outside.specs.declared.shelf.FetchError.TheVariants as error;
 
@@ -52,6 +55,6 @@ pub trait Shelf {
         ensures no_fault { result ≢ Err error.Failed → faults self.new ≡ faults self.old }
         ensures count { faults self.old ≤ faults self.new }
 
-        // Reading changes no bytes.
+        // After every answer the shelf holds what it held, under each name.
         ensures kept { (other : List ℕ) → holds self.new other ≡ holds self.old other };
 }

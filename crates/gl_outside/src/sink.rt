@@ -1,3 +1,5 @@
+//! What takes bytes.
+
 ghost use Rattle.std.specs.Prelude.{◌≡◌, ℕ, ◌≤◌, List, Option, OnOk, OnErr};
 ghost use Rattle.gl_outside.specs.Outside.{HasRisen, Appends, AppendsFront};
 

@@ -4,9 +4,9 @@ use Rattle.fol_core.specs.View.{formula_of}
 use Rattle.fol_core.specs.Symbol.{IsSymbolName}
 use Rattle.fof_parse.specs.Grammar.{word}
 use Rattle.fof_parse.specs.Grammar.{atom as atom_}
-use Rattle.fof_parse.specs.Views.{symbol_of, raws_of}
-use Rattle.fof_parse.specs.Parsing.{IsProperSymbol}
-use Rattle.fof_parse.specs.Building.{names, state_of, Built}
+use Rattle.fof_parse.specs.Reader.Views.{symbol_of, raws_of}
+use Rattle.fof_parse.specs.Reader.Parsing.{IsProperSymbol}
+use Rattle.fof_parse.specs.Reader.Building.{names, state_of, Built}
 use Rattle.fof_parse.proofs.Effects.{no_escapes}
 use Rattle.fof_parse.proofs.atom.atom.Goals as goal
 

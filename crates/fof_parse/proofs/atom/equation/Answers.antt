@@ -1,4 +1,4 @@
-use Rattle.fof_parse.specs.Building.{state_of}
+use Rattle.fof_parse.specs.Reader.Building.{state_of}
 use Rattle.fof_parse.proofs.Means.{equality_built}
 use Rattle.fof_parse.proofs.atom.equation.Goals as goal
 

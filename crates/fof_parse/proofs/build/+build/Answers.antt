@@ -1,12 +1,13 @@
 use Rattle.std.proofs.Common.{◌+◌, [], ◌∷◌, length, map, drop, refl, sym, ap, subst, ◌∙◌}
 use Rattle.std.proofs.lemmas.Option.{slice_get_read}
+use Rattle.std.proofs.lemmas.Result.{IfOk-weaker}
 use Rattle.std.proofs.lemmas.List.{map-append}
 use Rattle.fol_core.proofs.Trees.{term_of_app}
 use Rattle.fol_core.specs.View.{term_of, terms_of}
 use Rattle.fol_core.specs.declared.term.Term.TheVariants.{App}
-use Rattle.fof_parse.specs.Views.{symbol_of, raw_of, raws_of}
-use Rattle.fof_parse.specs.Parsing.{AreProperTerms}
-use Rattle.fof_parse.specs.Building.{names, state_of, IsFunctionHead, TermBuilt, TermsBuilt}
+use Rattle.fof_parse.specs.Reader.Views.{symbol_of, raw_of, raws_of}
+use Rattle.fof_parse.specs.Reader.Parsing.{AreProperTerms}
+use Rattle.fof_parse.specs.Reader.Building.{names, state_of, IsFunctionHead, TermBuilt, TermsBuilt}
 use Rattle.fof_parse.proofs.Raws.{raw_of_applied, raws_at, raws_end}
 use Rattle.fof_parse.proofs.Effects.{TermsBuiltSoFar, applied_built, one_more_built, all_built}
 use Rattle.fof_parse.proofs.build.+build.Goals as goal
@@ -40,4 +41,5 @@ terms-returns t c =
     let items = c.as_slice-raw-items.result.now in
     let done = subst (λ us. TermsBuiltSoFar (names c.args.scope.now) (state_of c.args.draft.now) (state_of c.loop-raw.draft) (raws_of items) us (map term_of c.loop-raw.out))
     (raws_end items c.loop-raw.raw-index c.loop-raw-test.false) c.loop-raw.invariant.so_far in
-    subst (λ us. TermsBuilt (names c.args.scope.now) (state_of c.args.draft.now) (state_of c.loop-raw.draft) (raws_of us) (terms_of c.loop-raw.out)) c.as_slice-raw-items.ensures (all_built _ _ _ _ _ done)
+    let built = subst (λ us. TermsBuilt (names c.args.scope.now) (state_of c.args.draft.now) (state_of c.loop-raw.draft) (raws_of us) (terms_of c.loop-raw.out)) c.as_slice-raw-items.ensures (all_built _ _ _ _ _ done) in
+    IfOk-weaker c.new.result _ _ (λ ts is. subst (λ us. TermsBuilt (names c.args.scope.now) (state_of c.args.draft.now) (state_of c.loop-raw.draft) (raws_of c.args.raws.now) (terms_of us)) (sym is) built) c.new.ensures

@@ -1,8 +1,8 @@
 use Rattle.std.proofs.Common.{drop, map}
 use Rattle.fol_core.specs.View.{term_of}
-use Rattle.fof_parse.specs.Views.{raws_of}
-use Rattle.fof_parse.specs.Parsing.{AreProperTerms}
-use Rattle.fof_parse.specs.Building.{names, state_of}
+use Rattle.fof_parse.specs.Reader.Views.{raws_of}
+use Rattle.fof_parse.specs.Reader.Parsing.{AreProperTerms}
+use Rattle.fof_parse.specs.Reader.Building.{names, state_of}
 use Rattle.fof_parse.proofs.Effects.{TermsBuiltSoFar}
 use Rattle.fof_parse.proofs.build.+build.Given as goal
 

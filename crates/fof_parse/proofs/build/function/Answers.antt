@@ -1,9 +1,9 @@
 use Rattle.std.proofs.Common.{Some, sym, subst, ◌∙◌}
 use Rattle.fol_core.specs.Symbol.{IsSymbolName}
 use Rattle.fof_parse.specs.Grammar.{word}
-use Rattle.fof_parse.specs.Views.{symbol_of}
-use Rattle.fof_parse.specs.Parsing.{IsProperSymbol}
-use Rattle.fof_parse.specs.Building.{Numbers}
+use Rattle.fof_parse.specs.Reader.Views.{symbol_of}
+use Rattle.fof_parse.specs.Reader.Parsing.{IsProperSymbol}
+use Rattle.fof_parse.specs.Reader.Building.{Numbers}
 use Rattle.fof_parse.proofs.Effects.{no_escapes}
 use Rattle.fof_parse.proofs.build.function.Goals as goal
 

@@ -1,5 +1,5 @@
 use Rattle.std.proofs.Common.{◌≡◌, drop}
-use Rattle.fof_parse.specs.Building.{has_backslash}
+use Rattle.fof_parse.specs.Reader.Building.{has_backslash}
 use Rattle.fof_parse.proofs.build.has_backslash.Given as goal
 
 abbrev pub invariant-loop-c : goal.invariant-loop-c

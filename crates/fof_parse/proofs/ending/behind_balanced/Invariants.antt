@@ -1,6 +1,6 @@
 use Rattle.std.proofs.Common.{◌≡◌, [], length, reverse}
-use Rattle.fof_parse.specs.Text.{from}
-use Rattle.fof_parse.specs.Reading.{behind_balanced}
+use Rattle.fof_parse.specs.Reader.Text.{from}
+use Rattle.fof_parse.specs.Reader.Reading.{behind_balanced}
 use Rattle.fof_parse.proofs.ending.behind_balanced.Given as goal
 
 abbrev pub invariant-loop-token : goal.invariant-loop-token

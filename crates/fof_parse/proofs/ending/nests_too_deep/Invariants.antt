@@ -1,5 +1,5 @@
 use Rattle.std.proofs.Common.{◌≡◌, ◌≤◌, [], nat_lt, length, reverse}
-use Rattle.fof_parse.specs.Text.{from}
+use Rattle.fof_parse.specs.Reader.Text.{from}
 use Rattle.fof_parse.specs.Nesting.{nesting}
 use Rattle.fof_parse.proofs.ending.nests_too_deep.Given as goal
 

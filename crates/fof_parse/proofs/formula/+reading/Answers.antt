@@ -1,5 +1,5 @@
 use Rattle.std.proofs.Common.{None, sym, ap, ◌∙◌, refl, arith}
-use Rattle.fof_parse.specs.Building.{names}
+use Rattle.fof_parse.specs.Reader.Building.{names}
 use Rattle.fof_parse.proofs.Formulas.{reads_negation, reads_group, no_scope, reads_quantified, reads_variable}
 use Rattle.fof_parse.proofs.Means.{no_next_unit, whole_formula}
 use Rattle.fof_parse.proofs.Found.{negation_parsed, group_parsed, unclosed_group, quantified_parsed, scope_parsed, names_more, next_parsed}

@@ -1,7 +1,7 @@
 use Rattle.std.proofs.Common.{◌≡◌, ◌<◌, ◌+◌, ◌-◌, ◌*◌, length}
 use Rattle.fol_core.specs.View.{formula_of}
-use Rattle.fof_parse.specs.Text.{from}
-use Rattle.fof_parse.specs.Building.{names, state_of}
+use Rattle.fof_parse.specs.Reader.Text.{from}
+use Rattle.fof_parse.specs.Reader.Building.{names, state_of}
 use Rattle.fof_parse.proofs.Means.{FormulaSoFar}
 use Rattle.fof_parse.proofs.formula.+reading.Given as goal
 

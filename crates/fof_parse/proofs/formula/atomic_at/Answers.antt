@@ -1,6 +1,6 @@
 use Rattle.std.proofs.Common.{None, sym, ap, ◌∙◌, refl, arith}
-use Rattle.fof_parse.specs.Reading.{atom_of}
-use Rattle.fof_parse.specs.Views.{symbol_of, raw_of, raws_of}
+use Rattle.fof_parse.specs.Reader.Reading.{atom_of}
+use Rattle.fof_parse.specs.Reader.Views.{symbol_of, raw_of, raws_of}
 use Rattle.fof_parse.proofs.Raws.{raw_of_applied, raw_of_variable, raw_of_number, raw_of_distinct}
 use Rattle.fof_parse.proofs.Formulas.{no_term_no_unit, reads_atom, reads_equation}
 use Rattle.fof_parse.proofs.Found.{atom_parsed, equation_parsed}

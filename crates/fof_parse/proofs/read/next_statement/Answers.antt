@@ -1,8 +1,8 @@
 use Rattle.std.proofs.Common.{◌≡◌, [], ◌∷◌, ◌++◌, length-append, refl, sym, ◌∙◌, arith}
 use Rattle.std.proofs.lemmas.Result.{err_from_is_err_and}
 use Rattle.fof_lex.specs.Tokens.{here}
-use Rattle.fof_lex.proofs.UpTo.{upto-append}
-use Rattle.fof_parse.proofs.Chunks.{none_open, one_open, all_in-append, found_in, stopped, ended, refused_from}
+use Rattle.fof_lex.proofs.UpTo.{upto-append, refused_behind}
+use Rattle.fof_parse.proofs.Chunks.{none_open, one_open, all_in-append, found_in, stopped, ended}
 use Rattle.fof_parse.proofs.read.next_statement.Goals as goal
 
 pub tokens-init : goal.tokens-init
@@ -11,7 +11,7 @@ tokens-init c = rw c.clear.ensures.items (record { text = refl; reads = here _ _
 pub returns-in_err-token-clause-refused : goal.returns-in_err-token-clause-refused
 returns-in_err-token-clause-refused c =
     let e = err_from_is_err_and c.from_residual.result c.from_residual.ensures.1 in
-    rw e.1 (rw e.2 (refused_from _ _ _ _ c.tokens.invariant.reads c.in_err-token.ensures.refused))
+    rw e.1 (rw e.2 (refused_behind _ _ _ _ _ _ c.tokens.invariant.reads c.in_err-token.ensures.refused.1))
 
 pub returns-then-is_stop-clause-next : goal.returns-then-is_stop-clause-next
 returns-then-is_stop-clause-next c =

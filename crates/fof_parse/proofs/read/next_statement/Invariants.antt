@@ -1,7 +1,7 @@
 use Rattle.std.proofs.Common.{◌≡◌, ◌≤◌, ◌+◌, length}
 use Rattle.fof_lex.specs.Tokens.{LexesUpTo}
 use Rattle.fof_lex.specs.Lexer.{place}
-use Rattle.fof_parse.specs.Text.{AreAllIn}
+use Rattle.fof_parse.specs.Reader.Text.{AreAllIn}
 use Rattle.fof_parse.proofs.Chunks.{IsOpen}
 use Rattle.fof_parse.proofs.read.next_statement.Given as goal
 

@@ -3,9 +3,9 @@ use Rattle.std.specs.Prelude.{slice_get}
 use Rattle.std.proofs.lemmas.Result.{err_from_is_err_and}
 use Rattle.fof_parse.specs.ProblemView.{plain_contents}
 use Rattle.fof_parse.specs.Refusal.{IsBad}
-use Rattle.fof_parse.specs.Text.{tokens_in}
-use Rattle.fof_parse.specs.Chunks.{Takes, has_conjecture}
-use Rattle.fof_parse.proofs.Chunks.{read_none, reads_more, bad_here, read_one, read_all, no_memory_wanted, refused_later}
+use Rattle.fof_parse.specs.Reader.Text.{tokens_in}
+use Rattle.fof_parse.specs.Reader.Chunks.{Takes, has_conjecture}
+use Rattle.fof_parse.proofs.Chunks.{read_none, reads_more, bad_here, read_one, read_all, refused_later}
 use Rattle.fof_parse.proofs.read.read_statements.Goals as goal
 
 pub statements-init : goal.statements-init
@@ -31,7 +31,7 @@ pub returns-in_err-read_on-in-Err-clause-refused : goal.returns-in_err-read_on-i
 returns-in_err-read_on-in-Err-clause-refused c =
     let e = err_from_is_err_and c.from_residual-in_err-read_on-in-Err.result c.from_residual-in_err-read_on-in-Err.ensures.1 in
     rw e.1 (rw e.2 (refused_later c.args.bytes.now c.next_statement.new.lexer _ _ (reads_more _ _ _ _ _ c.statements.invariant c.in_ok-next_statement.ensures.next) c.requires
-    (no_memory_wanted _ _ c.in_err-read_on-in-Err.ensures.refused)))
+    c.in_err-read_on-in-Err.ensures.refused.1))
 
 pub returns-in-Err-clause-refused : goal.returns-in-Err-clause-refused
 returns-in-Err-clause-refused c =

@@ -1,6 +1,6 @@
 use Rattle.std.proofs.Common.{length}
 use Rattle.fof_parse.specs.ProblemView.{plain_contents}
-use Rattle.fof_parse.specs.Chunks.{ReadUpTo}
+use Rattle.fof_parse.specs.Reader.Chunks.{ReadUpTo}
 use Rattle.fof_parse.proofs.read.read_statements.Given as goal
 
 abbrev pub invariant-statements : goal.invariant-statements

@@ -1,8 +1,8 @@
 use Rattle.std.proofs.Common.{Some, ◌+◌, sym, ap, ◌∙◌, arith, refl}
-use Rattle.fof_parse.specs.Text.{from}
+use Rattle.fof_parse.specs.Reader.Text.{from}
 use Rattle.fof_parse.specs.Grammar.{applied}
-use Rattle.fof_parse.specs.Views.{symbol_of, head_view, raws_of}
-use Rattle.fof_parse.specs.Reading.{variable_head, numeral_head, object_head}
+use Rattle.fof_parse.specs.Reader.Views.{symbol_of, head_view, raws_of}
+use Rattle.fof_parse.specs.Reader.Reading.{variable_head, numeral_head, object_head}
 use Rattle.fof_parse.proofs.Raws.{raw_of_applied, raw_of_variable, raw_of_number, raw_of_distinct}
 use Rattle.fof_parse.proofs.Terms.{no_head, symbol_first, bad_arguments, unclosed_arguments, simple_found, alone_found, applied_found, no_term, last_raw, one_raw_more}
 use Rattle.fof_parse.proofs.term.+terms.Goals as goal

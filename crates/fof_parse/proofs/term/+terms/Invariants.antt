@@ -1,6 +1,6 @@
 use Rattle.std.proofs.Common.{◌≤◌, ◌+◌, ◌-◌, ◌*◌, length, map}
-use Rattle.fof_parse.specs.Text.{from}
-use Rattle.fof_parse.specs.Views.{raw_of}
+use Rattle.fof_parse.specs.Reader.Text.{from}
+use Rattle.fof_parse.specs.Reader.Views.{raw_of}
 use Rattle.fof_parse.proofs.Terms.{TermsSoFar}
 use Rattle.fof_parse.proofs.term.+terms.Given as goal
 

@@ -1,7 +1,7 @@
 use Rattle.std.proofs.Common.{◌∷◌, ◌+◌, length, refl, sym, ap, subst, ◌∙◌, arith}
 use Rattle.std.proofs.lemmas.Bool.{ltb-true}
 use Rattle.std.proofs.lemmas.Option.{slice_get_read}
-use Rattle.fof_parse.specs.Text.{from, IsProper}
+use Rattle.fof_parse.specs.Reader.Text.{from, IsProper}
 use Rattle.fof_parse.proofs.Texts.{next_from, proper_in, range_in}
 use Rattle.fof_parse.proofs.text.token_at.Goals as goal
 

@@ -1,5 +1,5 @@
 use Rattle.std.proofs.Common.{sym, ap, ◌∙◌}
-use Rattle.fof_parse.specs.Building.{names}
+use Rattle.fof_parse.specs.Reader.Building.{names}
 use Rattle.fof_parse.proofs.Judging.{no_heading, no_formula, no_ending, whole_statement}
 use Rattle.fof_parse.proofs.verdict.parts_of.Goals as goal
 

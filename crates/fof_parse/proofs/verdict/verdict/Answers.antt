@@ -1,6 +1,6 @@
 use Rattle.std.proofs.Common.{sym, ap, ◌∙◌}
 use Rattle.fof_parse.specs.Refusal.{is_early, no_statement}
-use Rattle.fof_parse.specs.Verdict.{judged}
+use Rattle.fof_parse.specs.Reader.Verdict.{judged}
 use Rattle.fof_parse.proofs.Judging.{late_bad}
 use Rattle.fof_parse.proofs.verdict.verdict.Goals as goal
 

@@ -41,9 +41,11 @@ pub returns-in-Token-clause-shorter : goal.returns-in-Token-clause-shorter
 returns-in-Token-clause-shorter c = token_nearer _ _ _ _ _ (sym c.in-Token.ensures) c.pieces.invariant.passed
 
 pub returns-in-Nothing-clause-refused : goal.returns-in-Nothing-clause-refused
-returns-in-Nothing-clause-refused c =
-    subst (LexFails _ _) (ap (λ bs. length bs - length c.pieces.rest.now) (sym c.pieces.invariant.text) ∙ sym c.offset_of-offset.ensures)
-    (nothing_passed _ _ _ (is_some _ c.pieces.rest.now c.is_empty.ensures c.pieces-test.true) (sym c.in-Nothing.ensures) c.pieces.invariant.passed)
+returns-in-Nothing-clause-refused c = (
+  λ e. cc,
+  subst (LexFails _ _) (ap (λ bs. length bs - length c.pieces.rest.now) (sym c.pieces.invariant.text) ∙ sym c.offset_of-offset.ensures)
+      (nothing_passed _ _ _ (is_some _ c.pieces.rest.now c.is_empty.ensures c.pieces-test.true) (sym c.in-Nothing.ensures) c.pieces.invariant.passed),
+)
 
 pub returns-in-Nothing-clause-kept : goal.returns-in-Nothing-clause-kept
 returns-in-Nothing-clause-kept c = same_unread _ _ _ c.pieces.invariant.text c.pieces.invariant.start

@@ -3,7 +3,8 @@ use Rattle.std.specs.Prelude.{◌≡◌, ◌||◌, Bool, true, false, List, [], 
 use Rattle.fol_core.specs.Syntax.{PlainFormula}
 use Rattle.fof_parse.specs.Token.{Placed}
 use Rattle.fof_parse.specs.Grammar.{Statement}
-use Rattle.fof_parse.specs.Problem.{PlainProblem, Label, role_of, is_conjecture, functions_in, predicates_in, InternsAll, IsPlain}
+use Rattle.fof_parse.specs.Problem.{PlainProblem, Label, role_of, is_conjecture, functions_in, predicates_in}
+use Rattle.fof_parse.specs.Problem.{InternsAll, IsPlain}
 use Rattle.fof_parse.specs.Refusal.{IsGood, first_of, behind_first}
 
 -- where a formula goes
@@ -27,4 +28,5 @@ pub record Adds (old : PlainProblem) (st : Statement) (new : PlainProblem) : Typ
 abbrev pub Leads : Bool → List Placed → List Statement → Bool → List Placed → Type 0
 Leads had ts [] had' rest = (had' ≡ had) × (rest ≡ ts)
 Leads had [] (st ∷ sts) had' rest = ⊥
-Leads had (t ∷ ts) (st ∷ sts) had' rest = IsGood had (first_of (t ∷ ts)) st × Leads (had || is_conjecture st) (behind_first (t ∷ ts)) sts had' rest
+Leads had (t ∷ ts) (st ∷ sts) had' rest =
+    IsGood had (first_of (t ∷ ts)) st × Leads (had || is_conjecture st) (behind_first (t ∷ ts)) sts had' rest

@@ -1,7 +1,7 @@
 -- What values of the program stand for.
 use Rattle.std.specs.Prelude.{ℕ, List, [], ◌∷◌, map}
 use Rattle.fof_parse.specs.Grammar as grammar
-use Rattle.fof_parse.specs.Reading as reading
+use Rattle.fof_parse.specs.Reader.Reading as reading
 use Rattle.fof_parse.specs.declared.formula.Lead.{Lead}
 use Rattle.fof_parse.specs.declared.formula.Lead.TheVariants as leads
 use Rattle.fof_parse.specs.declared.term.Symbol.{Symbol}
@@ -12,7 +12,8 @@ use Rattle.fof_parse.specs.declared.term.Raw.{Raw, fold-Raw}
 use Rattle.fof_parse.specs.declared.term.Raw.TheOpen.{Raw-F}
 use Rattle.fof_parse.specs.Token as spec
 use Rattle.fof_parse.specs.declared.token.Token.{Token}
-use Rattle.fof_parse.specs.declared.token.Token.TheVariants.{Lower, Upper, Quoted, Distinct, Dollar, Number, Marked, Other}
+use Rattle.fof_parse.specs.declared.token.Token.TheVariants.{Lower, Upper, Quoted, Distinct, Dollar, Number, Marked}
+use Rattle.fof_parse.specs.declared.token.Token.TheVariants.{Other}
 
 abbrev pub token_view : Token → spec.Token
 token_view (Lower w) = spec.lower w.now

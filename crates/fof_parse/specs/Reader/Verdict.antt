@@ -9,7 +9,7 @@ use Rattle.fof_parse.specs.Token.{Token}
 use Rattle.fof_parse.specs.Grammar.{Statement, IsStatement}
 use Rattle.fof_parse.specs.Problem.{role_of, is_conjecture_role}
 use Rattle.fof_parse.specs.Refusal.{or_else, fault_if, IsGood}
-use Rattle.fof_parse.specs.Building.{State, Built}
+use Rattle.fof_parse.specs.Reader.Building.{State, Built}
 
 -- The tokens are a statement of this name and this role, whose formula is built.
 pub record StatementRead (ts : List Token) (old new : State) (w r : List ℕ) (a : PlainFormula) : Type 0 where
@@ -25,10 +25,13 @@ IsNoStatement ts = (st : Statement) → IsStatement ts st → ⊥
 -- the first fault, where `k` is the first of the formula's elements
 abbrev pub judged : Option BadKind → Bool → Option Role → Bool → Option BadKind
 judged k closed role had =
-    or_else k (or_else (fault_if (not (is_some role)) kinds.Role) (or_else (fault_if (not closed) kinds.FreeVariable) (fault_if (had && is_conjecture_role role) kinds.SecondConjecture)))
+    or_else k (or_else (fault_if (not (is_some role)) kinds.Role)
+    (or_else (fault_if (not closed) kinds.FreeVariable)
+    (fault_if (had && is_conjecture_role role) kinds.SecondConjecture)))
 
 -- The tokens are a statement without a fault, of this name and this role, whose formula is built.
-pub record GoodRead (had : Bool) (ts : List Token) (old new : State) (w : List ℕ) (r : Role) (a : PlainFormula) : Type 0 where
+pub record GoodRead (had : Bool) (ts : List Token) (old new : State) (w : List ℕ) (r : Role)
+    (a : PlainFormula) : Type 0 where
   pub statement : Statement
   pub good : IsGood had ts statement
   pub name : statement.name ≡ w

@@ -5,7 +5,8 @@ use Rattle.fol_core.specs.Syntax.{PlainFormula}
 use Rattle.fof_lex.specs.declared.token.Mark.TheVariants.{Stop}
 use Rattle.fof_lex.specs.declared.token.Kind.{Kind}
 use Rattle.fof_lex.specs.declared.token.Mark.{Mark}
-use Rattle.fof_lex.specs.declared.token.Kind.TheVariants.{LowerWord, UpperWord, Quoted, DistinctObject, DollarWord, Number, Connective as of_connective, Mark as of_mark}
+use Rattle.fof_lex.specs.declared.token.Kind.TheVariants.{LowerWord, UpperWord, Quoted, DistinctObject, DollarWord}
+use Rattle.fof_lex.specs.declared.token.Kind.TheVariants.{Number, Connective as of_connective, Mark as of_mark}
 use Rattle.fof_lex.specs.declared.token.Token.{Token as LexToken}
 use Rattle.fof_lex.specs.Tokens.{Lexes, LexesUpTo}
 use Rattle.fof_lex.specs.Lexer.{Unread, place}
@@ -13,7 +14,7 @@ use Rattle.fof_parse.specs.Token.{Token, Placed, placed}
 use Rattle.fof_parse.specs.Grammar.{Statement}
 use Rattle.fof_parse.specs.Problem.{PlainProblem, Label, is_conjecture_role, IsProblemOf}
 use Rattle.fof_parse.specs.Refusal.{IsGood}
-use Rattle.fof_parse.specs.Adding.{Places, Adds, Leads}
+use Rattle.fof_parse.specs.Reader.Adding.{Places, Adds, Leads}
 
 abbrev pub is_stop_mark : Mark → Bool
 is_stop_mark Stop = true
@@ -56,11 +57,12 @@ pub record ReadSoFar (ts rest : List Placed) (problem : PlainProblem) : Type 0 w
   pub leads : Leads false ts done (has_conjecture problem) rest
   pub meaning : IsProblemOf done problem
 
--- The tokens are the next statement of what is left: whatever tokens follow them, they are those up to its full stop, or up to
--- the end. None come only at the end.
+-- The tokens are the next statement of what is left: whatever tokens follow them, they are those up to its full stop,
+-- or up to the end. None come only at the end.
 pub record IsNext (before : Unread) (tokens : List LexToken) (behind : Unread) : Type 0 where
   pub reads : LexesUpTo (place before) before.rest tokens (place behind) behind.rest
-  pub first : (more : List LexToken) → Lexes (place behind) behind.rest more → statement_len (tokens ++ more) ≡ length tokens
+  pub first : (more : List LexToken) → Lexes (place behind) behind.rest more
+      → statement_len (tokens ++ more) ≡ length tokens
   pub at_end : tokens ≡ [] → Lexes (place behind) behind.rest []
 
 -- A text is read up to a place, and its statements up to there are this problem, whatever tokens follow.
@@ -68,4 +70,5 @@ pub record ReadUpTo (bytes : List ℕ) (unread : Unread) (problem : PlainProblem
   pub text : unread.text ≡ bytes
   pub done : List LexToken
   pub reads : LexesUpTo 0 bytes done (place unread) unread.rest
-  pub so_far : (more : List LexToken) → Lexes (place unread) unread.rest more → ReadSoFar (map (placed bytes) (done ++ more)) (map (placed bytes) more) problem
+  pub so_far : (more : List LexToken) → Lexes (place unread) unread.rest more
+      → ReadSoFar (map (placed bytes) (done ++ more)) (map (placed bytes) more) problem

@@ -1,8 +1,10 @@
 -- Reading tokens from the left: a part that stands in front, and the tokens behind it.
-use Rattle.std.specs.Prelude.{ℕ, zero, suc, Bool, true, false, ◌&&◌, not, if◌then◌else◌, List, [], ◌∷◌, codes, Option, Some, None}
+use Rattle.std.specs.Prelude.{ℕ, zero, suc, Bool, true, false, ◌&&◌, not, if◌then◌else◌, List, [], ◌∷◌, codes, Option}
+use Rattle.std.specs.Prelude.{Some, None}
 use Rattle.std.specs.Str.{bytes_eq}
 use Rattle.fof_parse.specs.declared.token.Operator.{Operator}
-use Rattle.fof_parse.specs.declared.token.Operator.TheVariants.{Implies, ImpliedBy, Equivalent, NotEquivalent, NotAnd, NotOr, And, Or}
+use Rattle.fof_parse.specs.declared.token.Operator.TheVariants.{Implies, ImpliedBy, Equivalent, NotEquivalent, NotAnd}
+use Rattle.fof_parse.specs.declared.token.Operator.TheVariants.{NotOr, And, Or}
 use Rattle.fof_parse.specs.declared.token.Quantifier.{Quantifier as Quantor}
 use Rattle.fof_parse.specs.declared.token.Quantifier.TheVariants as quantifiers
 use Rattle.fof_parse.specs.declared.token.Equality.{Equality as Equation}
@@ -10,9 +12,11 @@ use Rattle.fof_parse.specs.declared.token.Equality.TheVariants.{Equal, Unequal}
 use Rattle.fof_parse.specs.declared.token.Bracket.{Bracket}
 use Rattle.fof_parse.specs.declared.token.Bracket.TheVariants.{Round, Square, Curly}
 use Rattle.fof_parse.specs.declared.token.Mark.{Mark}
-use Rattle.fof_parse.specs.declared.token.Mark.TheVariants.{Open, Close, Comma, Stop, Colon, Not, Quantifier, Binary, Equality}
+use Rattle.fof_parse.specs.declared.token.Mark.TheVariants.{Open, Close, Comma, Stop, Colon, Not, Quantifier, Binary}
+use Rattle.fof_parse.specs.declared.token.Mark.TheVariants.{Equality}
 use Rattle.fof_parse.specs.Token.{Token, lower, upper, quoted, distinct, dollar, number, marked, other}
-use Rattle.fof_parse.specs.Grammar.{Symbol, word, defined, Term, variable, numeral, object, applied, Terms, no_terms, terms, Sentence, atom, equality, negation, binary, quantified, Statement, name_of}
+use Rattle.fof_parse.specs.Grammar.{Symbol, word, defined, Term, variable, numeral, object, applied, Terms, no_terms}
+use Rattle.fof_parse.specs.Grammar.{terms, Sentence, atom, equality, negation, binary, quantified, Statement, name_of}
 
 infixl 10 ◌>>=◌
 abbrev pub ◌>>=◌ : {A B : Type 0} → Option A → (A → Option B) → Option B
@@ -159,7 +163,8 @@ atom_of (object w) = None
 
 abbrev pub equated_by : Reader Term → Term → Reader Sentence
 equated_by term t ts =
-    if_some (one_token equality_of ts) (atom_of t >>= λ a. Some (a, ts)) (λ p. term p.1 >>= λ u. Some (equality p.0 t u.0, u.1))
+    if_some (one_token equality_of ts) (atom_of t >>= λ a. Some (a, ts))
+    (λ p. term p.1 >>= λ u. Some (equality p.0 t u.0, u.1))
 
 -- the unit behind `]:`
 abbrev pub body_by : Reader Sentence → Reader Sentence
@@ -172,7 +177,8 @@ bound_by unit scope ts = if_some (after_mark Comma ts) (body_by unit ts) scope
 abbrev pub scope_by : Reader Sentence → Quantor → ℕ → Reader Sentence
 scope_by unit q zero ts = None
 scope_by unit q (suc steps) ts =
-    one_token variable_of ts >>= λ v. bound_by unit (scope_by unit q steps) v.1 >>= λ a. Some (quantified q v.0 a.0, a.1)
+    one_token variable_of ts
+    >>= λ v. bound_by unit (scope_by unit q steps) v.1 >>= λ a. Some (quantified q v.0 a.0, a.1)
 
 abbrev pub led_by : Reader Sentence → Reader Sentence → ℕ → Lead → Reader Sentence
 led_by unit formula steps negation_lead ts = unit ts >>= λ a. Some (negation a.0, a.1)
@@ -204,14 +210,16 @@ next_operator by ts = one_token operator_of ts >>= λ p. if can_join by p.0 then
 abbrev pub chain_by : Reader Sentence → ℕ → Option Operator → Sentence → Reader Sentence
 chain_by unit zero by left ts = None
 chain_by unit (suc steps) by left ts =
-    if_some (next_operator by ts) (Some (left, ts)) (λ p. unit p.1 >>= λ b. chain_by unit steps (Some p.0) (binary p.0 left b.0) b.1)
+    if_some (next_operator by ts) (Some (left, ts))
+    (λ p. unit p.1 >>= λ b. chain_by unit steps (Some p.0) (binary p.0 left b.0) b.1)
 
 abbrev pub formula_by : Reader Sentence → ℕ → Reader Sentence
 formula_by unit steps ts = unit ts >>= λ a. chain_by unit steps None a.0 a.1
 
 unfoldable pub unit_within : ℕ → Reader Sentence
 unit_within zero ts = None
-unit_within (suc steps) ts = unit_by (term_within (suc steps)) (unit_within steps) (formula_by (unit_within steps) steps) steps ts
+unit_within (suc steps) ts =
+    unit_by (term_within (suc steps)) (unit_within steps) (formula_by (unit_within steps) steps) steps ts
 
 abbrev pub formula_within : ℕ → Reader Sentence
 formula_within steps ts = formula_by (unit_within steps) steps ts
@@ -236,8 +244,10 @@ heading_at ts = do
   second ← after_mark Comma role.1
   Some ((name.0, role.0), second)
 
--- The bracket that closes none of those that stand open, with what stands behind it. The open ones are the innermost first.
-abbrev pub closing : Option (List Bracket) → Bracket → List Token → (List Bracket → Option (List Token)) → Option (List Token)
+-- The bracket that closes none of those that stand open, with what stands behind it. The open ones are the innermost
+-- first.
+abbrev pub closing : Option (List Bracket) → Bracket → List Token → (List Bracket → Option (List Token))
+    → Option (List Token)
 closing None b ts next = Some (marked (Close b) ∷ ts)
 closing (Some stack) b ts next = next stack
 
@@ -248,7 +258,8 @@ closed_by b (c ∷ stack) = if same_bracket b c then Some (Some stack) else None
 abbrev pub behind_balanced : List Bracket → List Token → Option (List Token)
 behind_balanced stack [] = None
 behind_balanced stack (marked (Open b) ∷ ts) = behind_balanced (b ∷ stack) ts
-behind_balanced stack (marked (Close b) ∷ ts) = closed_by b stack >>= λ o. closing o b ts (λ left. behind_balanced left ts)
+behind_balanced stack (marked (Close b) ∷ ts) =
+    closed_by b stack >>= λ o. closing o b ts (λ left. behind_balanced left ts)
 behind_balanced stack (marked Stop ∷ ts) = None
 behind_balanced stack (t ∷ ts) = behind_balanced stack ts
 

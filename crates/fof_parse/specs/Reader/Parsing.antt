@@ -2,11 +2,15 @@
 use Rattle.std.specs.Prelude.{◌≡◌, ℕ, ◌<◌, List, length, Option, Some}
 use Rattle.fol_core.specs.Symbol.{IsSymbolName}
 use Rattle.fol_core.specs.Syntax.{PlainFormula}
-use Rattle.fof_parse.specs.Building.{State, Built}
+use Rattle.fof_parse.specs.Reader.Building.{State, Built}
 use Rattle.fof_parse.specs.declared.token.Quantifier.{Quantifier as Quantor}
 use Rattle.fof_parse.specs.Token.{Token}
-use Rattle.fof_parse.specs.Grammar.{Symbol, word, defined, Term, variable, numeral, object, applied, Terms, no_terms, terms, Sentence}
-use Rattle.fof_parse.specs.Reading.{Head, symbol_head, variable_head, numeral_head, object_head, arguments_by, terms_by, term_within, terms_within, body_by, bound_by, scope_by, unit_within, formula_within}
+use Rattle.fof_parse.specs.Grammar.{Symbol, word, defined, Term, variable, numeral, object, applied, Terms, no_terms}
+use Rattle.fof_parse.specs.Grammar.{terms, Sentence}
+use Rattle.fof_parse.specs.Reader.Reading.{Head, symbol_head, variable_head, numeral_head, object_head, arguments_by}
+use Rattle.fof_parse.specs.Reader.Reading.{terms_by}
+use Rattle.fof_parse.specs.Reader.Reading.{term_within, terms_within, body_by, bound_by, scope_by, unit_within}
+use Rattle.fof_parse.specs.Reader.Reading.{formula_within}
 
 -- What is read, by any number of steps that is enough.
 abbrev pub ReadsTerm : List Token → Option (Term × List Token) → Type 0
@@ -28,7 +32,8 @@ abbrev pub ReadsBody : List Token → Option (Sentence × List Token) → Type 0
 ReadsBody ts found = (steps : ℕ) → length ts < steps → body_by (unit_within steps) ts ≡ found
 
 abbrev pub ReadsBound : Quantor → List Token → Option (Sentence × List Token) → Type 0
-ReadsBound q ts found = (steps c : ℕ) → length ts < steps → length ts < c → bound_by (unit_within steps) (scope_by (unit_within steps) q c) ts ≡ found
+ReadsBound q ts found = (steps c : ℕ) → length ts < steps → length ts < c
+    → bound_by (unit_within steps) (scope_by (unit_within steps) q c) ts ≡ found
 
 abbrev pub ReadsFormula : List Token → Option (Sentence × List Token) → Type 0
 ReadsFormula ts found = (steps : ℕ) → length ts < steps → formula_within steps ts ≡ found
@@ -56,7 +61,8 @@ abbrev mutual
   AreProperTerms (terms u us) = IsProperTerm u × AreProperTerms us
 
 -- A part of a formula is read, and is built.
-pub record Parsed (Reads : Option (Sentence × List Token) → Type 0) (vs : List (List ℕ)) (old new : State) (a : PlainFormula) (rest : List Token) : Type 0 where
+pub record Parsed (Reads : Option (Sentence × List Token) → Type 0) (vs : List (List ℕ)) (old new : State)
+    (a : PlainFormula) (rest : List Token) : Type 0 where
   pub sentence : Sentence
   pub reads : Reads (Some (sentence, rest))
   pub built : Built vs old new sentence a

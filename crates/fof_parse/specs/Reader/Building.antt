@@ -7,7 +7,8 @@ use Rattle.fof_parse.specs.declared.refusal.BadKind.{BadKind}
 use Rattle.fof_parse.specs.declared.refusal.BadKind.TheVariants.{Dollar}
 use Rattle.fof_parse.specs.declared.build.Draft.{Draft}
 use Rattle.fof_parse.specs.Grammar.{Symbol, word, defined, Term, Terms, Sentence}
-use Rattle.fof_parse.specs.Problem.{is_closed_term, are_closed_terms, is_closed, functions_in_term, functions_in_terms, functions_in, predicates_in, InternsAll, IsPlainTerm, ArePlainTerms, IsPlain}
+use Rattle.fof_parse.specs.Problem.{is_closed_term, are_closed_terms, is_closed, functions_in_term, functions_in_terms}
+use Rattle.fof_parse.specs.Problem.{functions_in, predicates_in, InternsAll, IsPlainTerm, ArePlainTerms, IsPlain}
 use Rattle.fof_parse.specs.Refusal.{or_else, term_fault, terms_fault, element_fault}
 
 -- the symbols so far, the first fault so far, and whether each variable so far is bound
