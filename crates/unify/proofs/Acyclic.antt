@@ -3,6 +3,7 @@ use Rattle.std.proofs.Common.{◌≡◌, ◌≢◌, ℕ, zero, suc, ◌≤◌, B
 use Rattle.std.proofs.lemmas.Bool.Decides.{eqb_tells}
 use Rattle.free_terms.specs.Free.{Name, FreeTerm, FreeTerms, bound, metavar, skolem, app, no_terms, terms}
 use Rattle.unify.specs.Offers.{Offer, IsOffer, Chain, link, links, OccursIn, OccursInSome, value_of, value_within, substituted_in, substitute, substitute_all, resolved, same_name}
+pub use Rattle.unify.specs.Occurs.{Settled}
 
 -- the names of a chain that begins at x, the last of which is bound
 abbrev IsPath : Offer → Name → List Name → Type 0
@@ -12,11 +13,6 @@ IsPath s x (y ∷ ys) = ((t : FreeTerm) × (value_of s x ≡ Some t) × OccursIn
 abbrev Member : Name → List Name → Type 0
 Member x [] = ⊥
 Member x (y ∷ ys) = (x ≡ y) ⊎ Member x ys
-
--- no chain from x uses more than k bindings
-abbrev pub Settled : ℕ → Offer → Name → Type 0
-Settled zero s x = value_of s x ≡ None
-Settled (suc k) s x = (value_of s x ≡ None) ⊎ ((t : FreeTerm) × (value_of s x ≡ Some t) × ((y : Name) → OccursIn y t → Settled k s y))
 
 -- all of the term's metavariables are settled, or a path begins at one of them
 abbrev TermCase : ℕ → Offer → FreeTerm → Type 0
@@ -109,7 +105,7 @@ tells x y = by_parts (eqb_tells x.segment y.segment) (eqb_tells x.count y.count)
   by_parts (inl a) (inr b) = inr (ap (λ p. p && eqb x.count y.count) a.0 ∙ b.0, λ e. b.1 (ap (λ z. z.count) e))
   by_parts (inr a) b = inr (ap (λ p. p && eqb x.count y.count) a.0, λ e. a.1 (ap (λ z. z.segment) e))
 
-abbrev without : Name → Offer → Offer
+abbrev pub without : Name → Offer → Offer
 without x [] = []
 without x (b ∷ s) = if same_name b.name x then without x s else b ∷ without x s
 
@@ -132,7 +128,7 @@ removed x (b ∷ s) t e = either_way (same_name b.name x) e (shorter x s) (remov
   either_way true e le later = omega (arith, le)
   either_way false e le later = omega (arith, later e)
 
-kept : (x y : Name) (s : Offer) → y ≢ x → value_of (without x s) y ≡ value_of s y
+pub kept : (x y : Name) (s : Offer) → y ≢ x → value_of (without x s) y ≡ value_of s y
 kept x y [] apart = refl
 kept x y (b ∷ s) apart = either_way (tells b.name x) (tells b.name y) (kept x y s apart) where
   either_way : ((same_name b.name x ≡ true) × (b.name ≡ x)) ⊎ ((same_name b.name x ≡ false) × (b.name ≢ x))

@@ -3,7 +3,8 @@ use Rattle.std.proofs.Common.{◌≡◌, ℕ, zero, suc, ◌-◌, ◌<◌, Bool,
 use Rattle.free_terms.specs.Free.{Name, FreeTerm, metavar}
 use Rattle.unify.specs.Offers.{Offer, IsOffer, OccursIn, IsSubterm, IsSubtermOfBound, value_of, resolved}
 use Rattle.unify.specs.Work.{IsHead, IsMetavar}
-use Rattle.unify.proofs.Acyclic.{Settled, all_settled, resolved_binding}
+use Rattle.unify.specs.Occurs.{Settled}
+use Rattle.unify.proofs.Acyclic.{all_settled, resolved_binding}
 use Rattle.unify.proofs.Subterms.{itself}
 
 -- bindings of t led to the second term, and no chain from there uses more than so many
@@ -15,7 +16,7 @@ pub record Followed (s : Offer) (t at : FreeTerm) (left : ℕ) : Type 0 where
 some_once : {A : Type 0} (a b : A) → Some a ≡ Some b → a ≡ b
 some_once a b e = cc
 
-none_is_some : {A : Type 0} (a : A) → None ≡ Some a → ⊥
+pub none_is_some : {A : Type 0} (a : A) → None ≡ Some a → ⊥
 none_is_some a e = cc
 
 bound_value : (s : Offer) (x : Name) (v : FreeTerm) → value_of s x ≡ Some v → IsSubtermOfBound v s
@@ -33,7 +34,7 @@ pub followed_more : (s : Offer) (t : FreeTerm) (x : Name) (v : FreeTerm) (left :
 followed_more s t x v zero f e = absurd (none_is_some v (sym (f.settled x refl) ∙ e))
 followed_more s t x v (suc left) f e = omega arith
 
-settled_value : (s : Offer) (x : Name) (v : FreeTerm) (left : ℕ) → Settled (suc left) s x → value_of s x ≡ Some v → (y : Name) → OccursIn y v → Settled left s y
+pub settled_value : (s : Offer) (x : Name) (v : FreeTerm) (left : ℕ) → Settled (suc left) s x → value_of s x ≡ Some v → (y : Name) → OccursIn y v → Settled left s y
 settled_value s x v left (inl n) e = absurd (none_is_some v (sym n ∙ e))
 settled_value s x v left (inr p) e = λ y o. p.2 y (subst (λ w. OccursIn y w) (some_once v p.0 (sym e ∙ p.1)) o)
 

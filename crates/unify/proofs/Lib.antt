@@ -6,7 +6,14 @@ pub mod Subterms
 pub mod Parts
 pub mod Reduce
 pub mod Partial
+pub mod Places
 pub mod Heads
+pub mod Occurs
 pub mod Steps
 pub mod Variants
 pub mod Turns
+pub mod Decides
+pub mod Injective
+pub mod Index
+pub mod Depths
+pub mod Remembered

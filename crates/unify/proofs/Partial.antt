@@ -98,11 +98,11 @@ entails_both : (r s : Offer) (b : Binding) → Entails r s → Equates r (metava
 entails_both r [] b e q = (q, tt)
 entails_both r (c ∷ s) b e q = (e.0, entails_both r s b e.1 q)
 
-entails_old : (r s : Offer) (b : Binding) → Entails r (s ++ b ∷ []) → Entails r s
+pub entails_old : (r s : Offer) (b : Binding) → Entails r (s ++ b ∷ []) → Entails r s
 entails_old r [] b e = tt
 entails_old r (c ∷ s) b e = (e.0, entails_old r s b e.1)
 
-entails_last : (r s : Offer) (b : Binding) → Entails r (s ++ b ∷ []) → Equates r (metavar b.name) b.term
+pub entails_last : (r s : Offer) (b : Binding) → Entails r (s ++ b ∷ []) → Equates r (metavar b.name) b.term
 entails_last r [] b e = e.0
 entails_last r (c ∷ s) b e = entails_last r s b e.1
 

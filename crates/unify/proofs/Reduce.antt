@@ -68,8 +68,16 @@ last_pair r w a b x = (agrees_behind r w (one a b) x).0
 with_last : (r : Offer) (w : Pairs) (a b : FreeTerm) → Agrees r w → Equates r a b → Agrees r (w ++ one a b)
 with_last r w a b x q = agrees_both r w (one a b) x (q, tt)
 
-front_stands : (s : Offer) (w q : Pairs) → AllStand s (w ++ q) w
+pub front_stands : (s : Offer) (w q : Pairs) → AllStand s (w ++ q) w
 front_stands s w q = all_stand_in s (w ++ q) w (λ t p. in_front t w q p)
+
+-- a term against itself
+pub reduce_equal : (s : Offer) (w : Pairs) (a b : FreeTerm) → a ≡ b → Reduces s (w ++ one a b) w
+reduce_equal s w a b same = record {
+  stand = front_stands s w (one a b);
+  forward = λ r e x. agrees_front r w (one a b) x;
+  back = λ r e x. with_last r w a b x (ap (resolved r) same);
+}
 
 pub reduce_same : (s : Offer) (w : Pairs) (a b h k : FreeTerm) → IsHead s a h → IsHead s b k → h ≡ k → Reduces s (w ++ one a b) w
 reduce_same s w a b h k l m same = record {

@@ -1,12 +1,9 @@
 -- Following a binding, and the terms with all bindings applied.
-use Rattle.std.proofs.Common.{◌≡◌, ℕ, zero, suc, ◌-◌, ◌<◌, List, [], ◌∷◌, map, Option, Some, None, option_map, IfSome, IfNone, Result, Ok, Err, IfOk, length, refl, ap, sym, ◌∙◌, subst, arith}
+use Rattle.std.proofs.Common.{◌≡◌, ℕ, zero, suc, ◌-◌, ◌<◌, List, [], ◌∷◌, map, Some, None, Result, Ok, Err, IfOk, length, refl, ap, sym, ◌∙◌, arith}
 use Rattle.free_terms.specs.Free as free
 use Rattle.unify.specs.Offers.{Offer, substitute, substitute_all, value_within, substituted_in, value_of}
-use Rattle.std.specs.Option.{option_copied}
-use Rattle.std.specs.Borrow.{Bor}
 use Rattle.unify.specs.Work.{count}
 use Rattle.unify.proofs.Parts.{count_of}
-use Rattle.unify.specs.Weight.{IsStuck, Follows}
 use Rattle.free_terms.specs.View.{term_of, terms_of}
 use Rattle.free_terms.specs.declared.term.FTerm.{FTerm}
 
@@ -24,16 +21,6 @@ substitute_all_of f (u ∷ us) = ap (λ vs. free.terms (substitute f (term_of u)
 pub unbound : (m : ℕ) (s : Offer) (x : free.Name) → value_of s x ≡ None → value_within m s x ≡ free.metavar x
 unbound zero s x e = refl
 unbound (suc m) s x e = ap (λ o. substituted_in (value_within m s) x o) e
-
-pub follow_some : (m : ℕ) (s : Offer) (x : free.Name) (t : free.FreeTerm) (r : Option (Bor FTerm)) → t ≡ free.metavar x → 0 < m
-    → option_map term_of (option_copied r) ≡ value_of s x → IfSome r (λ v. Follows m s t (term_of v.now))
-follow_some m s x t None te pos e = tt
-follow_some m s x t (Some v) te pos e = (pos, ap (λ z. substitute (value_within m s) z) te ∙ followed m s x (term_of v.now) pos (sym e))
-
-pub follow_none : (m : ℕ) (s : Offer) (x : free.Name) (t : free.FreeTerm) (r : Option (Bor FTerm)) → t ≡ free.metavar x
-    → option_map term_of (option_copied r) ≡ value_of s x → IfNone r (IsStuck m s t)
-follow_none m s x t None te e = subst (λ z. IsStuck m s z) (sym te) (unbound m s x (sym e))
-follow_none m s x t (Some v) te e = tt
 
 pub count_terms : (us : List FTerm) → count (terms_of us) ≡ length us
 count_terms [] = refl

@@ -1,12 +1,14 @@
 -- The turns of unification: what a step leaves of the offer and the pairs.
 use Rattle.std.proofs.Common.{◌≡◌, ◌<◌, List, [], ◌∷◌, ◌++◌, length, None, refl, ap, sym, ◌∙◌, subst, arith}
 use Rattle.free_terms.specs.Free.{FreeTerms}
-use Rattle.free_terms.specs.View.{terms_of}
+use Rattle.free_terms.specs.View.{name_of, terms_of}
 use Rattle.free_terms.specs.declared.term.FTerm.{FTerm}
-use Rattle.unify.specs.Offers.{Offer, IsOffer, IsMostGeneral, Unifies}
+use Rattle.unify.specs.Offers.{value_of, Offer, IsOffer, IsMostGeneral, Unifies}
+use Rattle.unify.specs.Memo.{Remembers, StillRemembers}
 use Rattle.unify.specs.View.{binding_of, offer_of}
+use Rattle.unify.specs.declared.memo.Memo.{Memo}
 use Rattle.unify.specs.Work.{Pairs, pairs_of, zipped, StepMeans, NoneIfAgreed}
-use Rattle.unify.specs.declared.subst.Binding.{Binding}
+use Rattle.unify.specs.declared.bindings.Binding.{Binding}
 use Rattle.unify.specs.declared.work.Pair.{Pair}
 use Rattle.unify.specs.declared.work.Step.{Step}
 use Rattle.unify.specs.declared.work.Step.TheVariants as step
@@ -24,11 +26,6 @@ begun given seen us vs none work o same e p =
     subst (λ s. IsPartial (offer_of given) (zipped us vs) (offer_of s) (pairs_of work)) (sym same)
     (subst (IsPartial (offer_of given) (zipped us vs) (offer_of given)) (sym (p ∙ ap (λ z. pairs_of z ++ zipped us vs) e)) (partial_start (offer_of given) (zipped us vs) o))
 
--- the same of the slice that the program reads the bindings by
-pub held : (given : Offer) (start : Pairs) (s slice : List Binding) (work : Pairs) → slice ≡ s → IsPartial given start (offer_of s) work
-    → IsPartial given start (offer_of slice) work
-held given start s slice work e p = subst (λ z. IsPartial given start (offer_of z) work) (sym e) p
-
 pub bound_turn : (given : Offer) (start : Pairs) (s after : List Binding) (old new : Pairs) (told : Step) (b : Binding) → IsPartial given start (offer_of s) old
     → StepMeans (offer_of s) old new told → told ≡ step.Bind b → after ≡ s ++ b ∷ [] → IsPartial given start (offer_of after) new
 bound_turn given start s after old new told b p m is e =
@@ -41,6 +38,17 @@ bound_less given start s after old new told b p m is e =
     let less = less_unbound given start (offer_of s) old new (binding_of b) p (subst (StepMeans (offer_of s) old new) is m) in
     let same = ap (unbound given start) (ap offer_of e ∙ offer_with s b) in
     omega (arith, less, same)
+
+-- the name that is bound next is open
+pub open_turn : (s seen : List Binding) (old new : Pairs) (told : Step) (b : Binding) → StepMeans (offer_of s) old new told → told ≡ step.Bind b → seen ≡ s
+    → value_of (offer_of seen) (name_of b.name) ≡ None
+open_turn s seen old new told b m is e =
+    subst (λ z. value_of (offer_of z) (name_of b.name) ≡ None) (sym e) (subst (StepMeans (offer_of s) old new) is m).unbound
+
+pub memo_turn : (s after : List Binding) (new : Pairs) (memo : Memo) (told : Step) (b : Binding) → StillRemembers (offer_of s) new memo told → told ≡ step.Bind b
+    → after ≡ s ++ b ∷ [] → Remembers (offer_of after) new memo
+memo_turn s after new memo told b k is e =
+    subst (λ z. Remembers z new memo) (sym (ap offer_of e ∙ offer_with s b)) (subst (StillRemembers (offer_of s) new memo) is k)
 
 pub clash_turn : (given : Offer) (us vs : FreeTerms) (s : Offer) (old new : Pairs) (told : Step) → IsPartial given (zipped us vs) s old
     → StepMeans s old new told → told ≡ step.Clash → Unifies given us vs None

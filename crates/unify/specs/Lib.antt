@@ -2,3 +2,8 @@ pub mod Offers
 pub mod View
 pub mod Weight
 pub mod Work
+pub mod Occurs
+pub mod Tests
+pub mod Index
+pub mod Nesting
+pub mod Memo

@@ -1,5 +1,6 @@
 -- Offers: finite substitutions for metavariables, kept as lists of bindings.
-use Rattle.std.specs.Prelude.{◌≡◌, ℕ, zero, suc, List, [], ◌∷◌, ◌++◌, map, length, Option, Some, None, Bool, ◌&&◌, eqb, if◌then◌else◌, ◌⊎◌}
+use Rattle.std.specs.Prelude.{◌≡◌, ℕ, zero, suc, List, [], ◌∷◌, ◌++◌, map, length, Option, Some, None, Bool, ◌&&◌}
+use Rattle.std.specs.Prelude.{eqb, if◌then◌else◌, ◌⊎◌}
 use Rattle.std.specs.List.{IsDistinct}
 use Rattle.free_terms.specs.Free.{Name, FreeTerm, FreeTerms, bound, metavar, skolem, app, no_terms, terms}
 
@@ -106,7 +107,8 @@ StandsIn given ts us t = IsSubtermOfSome t ts ⊎ (IsSubtermOfSome t us ⊎ IsSu
 -- one of the two lists or in a bound term of the given offer.
 abbrev pub AreNew : Offer → FreeTerms → FreeTerms → Offer → Type 0
 AreNew given ts us [] = Unit {0}
-AreNew given ts us (b ∷ more) = (value_of given b.name ≡ None) × StandsIn given ts us b.term × AreNew given ts us more
+AreNew given ts us (b ∷ more) =
+    (value_of given b.name ≡ None) × StandsIn given ts us b.term × AreNew given ts us more
 
 -- What unification answers: an offer that begins with the given one, goes on with new bindings, equates
 -- the lists, and is entailed by every offer that entails the given one and equates them.

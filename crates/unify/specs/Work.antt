@@ -1,8 +1,11 @@
 -- Pairs of terms that are still to be made one, and what a step of unification makes of them.
-use Rattle.std.specs.Prelude.{◌≡◌, ℕ, suc, ◌+◌, ◌≤◌, List, [], ◌∷◌, ◌++◌, map, Option, Some, None, MatchOption, Bool, ◌&&◌, eqb, if◌then◌else◌, ◌⊎◌}
+use Rattle.std.specs.Prelude.{◌≡◌, ℕ, suc, ◌+◌, ◌≤◌, List, [], ◌∷◌, ◌++◌, map, Option, Some, None, MatchOption, Bool}
+use Rattle.std.specs.Prelude.{◌&&◌, eqb, if◌then◌else◌, ◌⊎◌}
 use Rattle.free_terms.specs.Free.{Name, FreeTerm, FreeTerms, bound, metavar, skolem, app, no_terms, terms}
-use Rattle.free_terms.specs.View.{term_of}
-use Rattle.unify.specs.Offers.{Offer, Binding, Equates, Entails, OccursIn, IsSubterm, IsSubtermOfBound, value_of, resolved, same_name}
+use Rattle.free_terms.specs.View.{term_of, terms_of}
+use Rattle.free_terms.specs.declared.term.FTerm.{FTerm}
+use Rattle.unify.specs.Offers.{Offer, Binding, Equates, Entails, OccursIn, IsSubterm, IsSubtermOfBound, value_of}
+use Rattle.unify.specs.Offers.{resolved, same_name}
 use Rattle.unify.specs.View.{binding_of}
 use Rattle.unify.specs.declared.work.Pair.{Pair}
 use Rattle.unify.specs.declared.work.Step.{Step}
@@ -110,7 +113,8 @@ StepMeans s old new (step.Bind b) = Binds s old new (binding_of b)
 abbrev pub AgainstMeans : Offer → Name → FreeTerm → Step → Type 0
 AgainstMeans s x t step.Agreed = t ≡ metavar x
 AgainstMeans s x t step.Clash = (r : Offer) → Entails r s → Equates r (metavar x) t → ⊥
-AgainstMeans s x t (step.Bind b) = ((binding_of b).name ≡ x) × ((binding_of b).term ≡ t) × (OccursIn x (resolved s t) → ⊥)
+AgainstMeans s x t (step.Bind b) =
+    ((binding_of b).name ≡ x) × ((binding_of b).term ≡ t) × (OccursIn x (resolved s t) → ⊥)
 
 -- where nothing is bound, and nothing clashes, what is left is less
 abbrev pub LessIfAgreed : Offer → Pairs → Pairs → Step → Type 0
@@ -133,3 +137,13 @@ abbrev pub PushMeans : FreeTerms → FreeTerms → Pairs → Pairs → Step → 
 PushMeans us vs old new step.Agreed = (count us ≡ count vs) × (new ≡ old ++ zipped us vs)
 PushMeans us vs old new step.Clash = count us ≡ count vs → ⊥
 PushMeans us vs old new (step.Bind b) = ⊥
+
+-- the same of the program's terms and pairs
+abbrev pub AddsPairs : List FTerm → List FTerm → List Pair → List Pair → Type 0
+AddsPairs us vs old new = pairs_of new ≡ pairs_of old ++ zipped (terms_of us) (terms_of vs)
+
+abbrev pub PushTells : List FTerm → List FTerm → List Pair → List Pair → Step → Type 0
+PushTells us vs old new told = PushMeans (terms_of us) (terms_of vs) (pairs_of old) (pairs_of new) told
+
+abbrev pub SplitTells : FTerm → FTerm → List Pair → List Pair → Step → Type 0
+SplitTells t u old new told = SplitMeans (term_of t) (term_of u) (pairs_of old) (pairs_of new) told

@@ -1,6 +1,8 @@
+//! Tests of each public call.
+
 ghost use Rattle.std.specs.Prelude.{◌≡◌, IfOk, length};
 
-use crate::{Subst, binding, empty, entails, equates, resolve, unify, value_of};
+use crate::{Subst, binding, copy, empty, entails, equates, lead, resolve, same, unify, value_of};
 use containers::{Items, Shared};
 use free_terms::{FTerm, FTerms, Name};
 use std::alloc::{AllocError, Global};
@@ -93,6 +95,16 @@ fn resolves_a_chain(rt: HostRuntime) -> Result<(), AllocError> {
     let a = constant(alloc, 1)?;
     let wanted = one(alloc, applied(alloc, 0, a)?)?;
     assert!(rt; equates(&empty(alloc), &resolved, &wanted));
+    Ok(())
+}
+
+#[test]
+fn copies_and_follows(rt: HostRuntime) -> Result<(), AllocError> {
+    let alloc = rt.alloc();
+    let s = two_bindings(alloc)?;
+    let other = copy(alloc, &s)?;
+    assert!(rt; same(&s, &other));
+    assert!(rt; matches!(lead(&s, &FTerm::Meta(X)), FTerm::App(0, _)));
     Ok(())
 }
 

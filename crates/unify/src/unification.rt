@@ -1,10 +1,11 @@
-ghost use Rattle.std.specs.Prelude.{◌≡◌, ◌++◌, ◌∷◌, [], length, option_map, IfOk};
-ghost use Rattle.free_terms.specs.View.{terms_of};
-ghost use Rattle.unify.specs.Offers.{Unifies};
-ghost use Rattle.unify.specs.View.{offer_of};
+//! Most general offers.
 
+ghost use Rattle.std.specs.Prelude.{◌≡◌, length, IfOk};
+ghost use Rattle.unify.specs.View.{UnifiesTerms};
+
+use crate::memo::Memo;
 use crate::step::step;
-use crate::subst::{Binding, Subst};
+use crate::subst::{Subst, copy};
 use crate::work::{Step, push_pairs};
 use free_terms::FTerms;
 use smallvec::SmallVec;
@@ -14,7 +15,8 @@ use std::alloc::{AllocError, Global};
 /// where no offer that entails the given one makes them one.
 ///
 /// A failing attempt that meets no new binding copies nothing of the given offer. New bindings share their
-/// terms with the lists and the given offer.
+/// terms with the lists and the given offer. Bound terms that nest deeper together than `MOST_NESTED` are want
+/// of memory.
 pub fn unify(
     alloc: Global,
     given: &Subst,
@@ -22,37 +24,27 @@ pub fn unify(
     b: &FTerms,
 ) -> Result<Option<Subst>, AllocError>
     requires { length a.now ≡ length b.now }
-    ensures { IfOk result (λ found. Unifies (offer_of given.now) (terms_of a.now) (terms_of b.now) (option_map offer_of found)) }
+    ensures { IfOk result (UnifiesTerms given.now a.now b.now) }
 {
     let mut work = SmallVec::new(alloc);
     push_pairs(&mut work, a, b)?;
-    let mut s = match step(given.bindings(), &mut work)? {
-        Step::Agreed => return Ok(Some(Subst::of(copied(alloc, given)?))),
+    let mut memo = Memo::new(alloc);
+    let mut s = match step(alloc, given.bindings(), &mut work, &mut memo)? {
+        Step::Agreed => {
+            let same = copy(alloc, given)?;
+            return Ok(Some(same));
+        }
         Step::Clash => return Ok(None),
         Step::Bind(binding) => {
-            let mut s = copied(alloc, given)?;
-            s.push(binding)?;
-            s
+            let copied = given.bindings().copy(alloc)?;
+            copied.with(binding)?
         }
     };
     loop {
-        match step(&s, &mut work)? {
+        match step(alloc, &s, &mut work, &mut memo)? {
             Step::Agreed => return Ok(Some(Subst::of(s))),
             Step::Clash => return Ok(None),
-            Step::Bind(binding) => s.push(binding)?,
+            Step::Bind(binding) => s = s.with(binding)?,
         }
     }
-}
-
-/// The bindings, with their terms shared.
-fn copied(alloc: Global, given: &Subst) -> Result<Vec<Binding>, AllocError>
-    ensures { IfOk result (λ s. s.items ≡ given.now) }
-{
-    let bindings = given.bindings();
-    let mut out = Vec::with_capacity(alloc, bindings.len())?;
-    for b in bindings {
-        let term = b.term.copy()?;
-        out.push(Binding { name: b.name, term })?;
-    }
-    Ok(out)
 }

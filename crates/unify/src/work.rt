@@ -1,8 +1,9 @@
-ghost use Rattle.std.specs.Prelude.{◌≡◌, ◌++◌, length, IfOk};
-ghost use Rattle.free_terms.specs.View.{term_of, terms_of};
-ghost use Rattle.unify.specs.Work.{pairs_of, zipped, SplitMeans, PushMeans};
+//! The pairs of terms that unification has still to make one.
 
-use crate::subst::Binding;
+ghost use Rattle.std.specs.Prelude.{◌≡◌, length, IfOk};
+ghost use Rattle.unify.specs.Work.{AddsPairs, PushTells, SplitTells};
+
+use crate::bindings::Binding;
 use free_terms::{FTerm, FTerms};
 use smallvec::SmallVec;
 use std::alloc::AllocError;
@@ -38,7 +39,7 @@ pub(crate) enum Step {
 /// Adds the terms of two lists of one length, place by place.
 pub(crate) fn push_pairs(work: &mut Pairs, us: &FTerms, vs: &FTerms) -> Result<(), AllocError>
     requires { length us.now ≡ length vs.now }
-    ensures { IfOk result (λ _. pairs_of work.new.items ≡ pairs_of work.old.items ++ zipped (terms_of us.now) (terms_of vs.now)) }
+    ensures { IfOk result (λ _. AddsPairs us.now vs.now work.old.items work.new.items) }
 {
     let us = us.get().as_slice();
     let vs = vs.get().as_slice();
@@ -52,7 +53,7 @@ pub(crate) fn push_pairs(work: &mut Pairs, us: &FTerms, vs: &FTerms) -> Result<(
 
 /// Adds the arguments of two terms of one symbol, which agree in number where any offer makes them one.
 fn push_arguments(work: &mut Pairs, us: &FTerms, vs: &FTerms) -> Result<Step, AllocError>
-    ensures { IfOk result (λ step. PushMeans (terms_of us.now) (terms_of vs.now) (pairs_of work.old.items) (pairs_of work.new.items) step) }
+    ensures { IfOk result (PushTells us.now vs.now work.old.items work.new.items) }
 {
     if us.get().len() != vs.get().len() {
         return Ok(Step::Clash);
@@ -63,7 +64,7 @@ fn push_arguments(work: &mut Pairs, us: &FTerms, vs: &FTerms) -> Result<Step, Al
 
 /// Adds what two terms come to, neither of which is a metavariable.
 pub(crate) fn split(work: &mut Pairs, a: &FTerm, b: &FTerm) -> Result<Step, AllocError>
-    ensures { IfOk result (λ step. SplitMeans (term_of a.now) (term_of b.now) (pairs_of work.old.items) (pairs_of work.new.items) step) }
+    ensures { IfOk result (SplitTells a.now b.now work.old.items work.new.items) }
 {
     match a {
         FTerm::Bound(i) => match b {

@@ -8,7 +8,7 @@ use Rattle.unify.proofs.follow.head.Goals as goal
 
 pub loop-at-init : goal.loop-at-init
 loop-at-init c =
-    subst (Followed (offer_of c.args.s.now) (term_of c.args.t.now) (term_of c.args.t.now)) (length-map c.args.s.now binding_of)
+    subst (Followed (offer_of c.args.s.now) (term_of c.args.t.now) (term_of c.args.t.now)) (length-map c.args.s.now binding_of ∙ sym c.len-left.ensures)
     (followed_start (offer_of c.args.s.now) (term_of c.args.t.now) c.requires)
 
 pub overflow_sub-left : goal.overflow_sub-left
