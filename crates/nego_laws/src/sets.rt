@@ -1,3 +1,5 @@
+//! A small field whose offers are sets of numbers.
+
 ghost use Rattle.std.specs.Prelude.{◌≡◌, [], ◌∷◌, option_copied, IfOk};
 ghost use Rattle.nego_laws.specs.Sets.{site_named, set_tree, needs_of, parted_of};
 ghost use Rattle.nego_laws.specs.SetLaws.{set_laws};
@@ -6,18 +8,17 @@ use crate::field::{Field, Offer};
 use containers::{Items, Shared};
 use std::alloc::AllocError;
 
-/// A site, whether it has parts, and the set that each of its items needs.
+/// A site: whether it has parts, and the set that each of its items needs.
 #[derive(Drop)]
 pub struct SetSite {
-    pub name: u128,
     pub parted: bool,
     pub needs: Items<u64>,
 }
 
-/// The sites of a tree, with a limit that is above each name.
+/// The sites of a tree in the order of their names, from 1 on. A name that the tree does not have has a site without
+/// items.
 #[derive(Drop)]
 pub struct SetTree {
-    pub limit: u128,
     pub sites: Items<SetSite>,
 }
 
@@ -45,20 +46,14 @@ pub struct SetField {
     pub tree: Shared<SetTree>,
 }
 
-/// The site of a name.
-fn find(sites: &[SetSite], name: u128) -> Option<&SetSite>
+/// The site of a name, in constant time.
+fn find(sites: &Items<SetSite>, name: u128) -> Option<&SetSite>
     ensures { option_copied result ≡ site_named sites.now name }
 {
-    match sites {
-        [] => None,
-        [first, rest @ ..] => {
-            if first.name == name {
-                Some(first)
-            } else {
-                find(rest, name)
-            }
-        }
+    if name == 0 || name > sites.len() as u128 {
+        return None;
     }
+    sites.get((name - 1) as usize)
 }
 
 impl Field for SetField {
@@ -91,7 +86,7 @@ impl Field for SetField {
     }
 
     fn items(&self, site: &SetPlace) -> u64 {
-        match find(self.tree.get().sites.as_slice(), site.name) {
+        match find(&self.tree.get().sites, site.name) {
             None => 0,
             Some(found) => found.needs.len() as u64,
         }
@@ -99,12 +94,12 @@ impl Field for SetField {
 
     fn has_parts(&self, site: &SetPlace) -> bool {
         let tree = self.tree.get();
-        match find(tree.sites.as_slice(), site.name) {
+        match find(&tree.sites, site.name) {
             None => false,
-            Some(found) => found.parted
-                && site.name > 0
-                && site.name < tree.limit / 2
-                && 2 * site.name + 1 < tree.limit,
+            Some(found) => {
+                let all = tree.sites.len() as u128;
+                found.parted && site.name < all && 2 * site.name + 1 <= all
+            }
         }
     }
 
@@ -114,7 +109,7 @@ impl Field for SetField {
         item: u64,
         given: &SetOffer,
     ) -> Result<Option<SetOffer>, AllocError> {
-        match find(self.tree.get().sites.as_slice(), site.name) {
+        match find(&self.tree.get().sites, site.name) {
             None => Ok(None),
             Some(found) => Ok(Some(SetOffer {
                 set: given.set | found.needs.as_slice()[item as usize],
@@ -124,7 +119,6 @@ impl Field for SetField {
     }
 
     fn parts(&self, site: &SetPlace) -> Result<Option<(SetPlace, SetPlace)>, AllocError> {
-        let limit = self.tree.get().limit;
         if !self.has_parts(site) {
             return Ok(None);
         }

@@ -40,26 +40,26 @@ module _ {O : Type 0} where
       (all-weaken (λ task. task.generation < k.task.generation) (λ task. task.generation < h.generation + 1) (λ x l. omega (arith, l, at)) a.0 a.2)
       (omega (arith, at)))
 
-  posted-task : (h : Half O) (o : Option (Slot O)) (a : Answer O) → h.slot ≡ o → asked_in (posted_in h o a).slot ≡ asked_in o
+  pub posted-task : (h : Half O) (o : Option (Slot O)) (a : Answer O) → h.slot ≡ o → asked_in (posted_in h o a).slot ≡ asked_in o
   posted-task h None a e = ap asked_in e
   posted-task h (Some k) a e = refl
 
-  posted-generation : (h : Half O) (o : Option (Slot O)) (a : Answer O) → (posted_in h o a).generation ≡ h.generation
+  pub posted-generation : (h : Half O) (o : Option (Slot O)) (a : Answer O) → (posted_in h o a).generation ≡ h.generation
   posted-generation h None a = refl
   posted-generation h (Some k) a = refl
 
   -- what holds of both halves
-  at-halves : (P : Half O → Side → Type 0) (s : State O) (side : Side) (h g : Half O) → P h side → P g (other side) → (y : Side) → P (half (with_halves s side h g) y) y
+  pub at-halves : (P : Half O → Side → Type 0) (s : State O) (side : Side) (h g : Half O) → P h side → P g (other side) → (y : Side) → P (half (with_halves s side h g) y) y
   at-halves P s Left h g a b Left = a
   at-halves P s Left h g a b Right = b
   at-halves P s Right h g a b Left = b
   at-halves P s Right h g a b Right = a
 
-  proposing-half : (s : State O) (h : Option (Task O)) (x : O) (y : Side) → half (proposing s h x) y ≡ half s y
+  pub proposing-half : (s : State O) (h : Option (Task O)) (x : O) (y : Side) → half (proposing s h x) y ≡ half s y
   proposing-half s None x y = refl
   proposing-half s (Some task) x y = refl
 
-  giving_up-half : (s : State O) (h : Option (Task O)) (y : Side) → half (giving_up s h) y ≡ half s y
+  pub giving_up-half : (s : State O) (h : Option (Task O)) (y : Side) → half (giving_up s h) y ≡ half s y
   giving_up-half s None y = refl
   giving_up-half s (Some task) y = refl
 
@@ -71,7 +71,7 @@ module _ {O : Type 0} where
   other-asked Left task = refl
   other-asked Right task = refl
 
-  own-generation : (s : State O) (held : Task O) (trial : Option (Trial O)) (side : Side) → (task_for s held trial side).generation ≡ (half s side).generation
+  pub own-generation : (s : State O) (held : Task O) (trial : Option (Trial O)) (side : Side) → (task_for s held trial side).generation ≡ (half s side).generation
   own-generation s held None side = refl
   own-generation s held (Some x) side = refl
 

@@ -20,7 +20,7 @@ use Rattle.nego_node.proofs.Sides.{none-some, same-some, other-other, half-sound
 use Rattle.nego_node.proofs.Moving.{proposed-has}
 use Rattle.nego_node.proofs.StateTests.{not-true, not-false, not-both, is-not-some, seeks-true, true-seeks, has-exhausted, has-proposal, exhausted-has, proposal-has, trial-of}
 
-same-side : (a b : Side) → is_same a b ≡ true → a ≡ b
+pub same-side : (a b : Side) → is_same a b ≡ true → a ≡ b
 same-side Left Left e = refl
 same-side Left Right e = absurd (let k : false ≡ true = e in cc)
 same-side Right Left e = absurd (let k : false ≡ true = e in cc)

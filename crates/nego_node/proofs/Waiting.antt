@@ -27,11 +27,11 @@ pub at-if : (P : Move → Type 0) (b : Bool) (x y : Move) → (b ≡ true → P 
 at-if P true x y f g = f refl
 at-if P false x y f g = g refl
 
-not-not : (b : Bool) → not b ≡ false → b ≡ true
+pub not-not : (b : Bool) → not b ≡ false → b ≡ true
 not-not true h = refl
 not-not false h = absurd (let k : true ≡ false = h in cc)
 
-false-if : (b : Bool) → (b ≡ true → ⊥) → b ≡ false
+pub false-if : (b : Bool) → (b ≡ true → ⊥) → b ≡ false
 false-if true h = absurd (h refl)
 false-if false h = refl
 

@@ -7,7 +7,17 @@ use Rattle.nego_node.specs.declared.tasks.Task.{Task}
 use Rattle.nego_node.specs.declared.tasks.Side.{Side}
 use Rattle.nego_node.specs.declared.tasks.Side.TheVariants.{Left, Right}
 use Rattle.nego_node.specs.declared.moves.Move.{Move}
-use Rattle.nego_node.specs.declared.moves.Move.TheVariants.{Wait, Try, Split, Ask, Adopt, Agree, Forbid, Refuse, Exhaust}
+use Rattle.nego_node.specs.declared.moves.Move.TheVariants.{
+  Wait,
+  Try,
+  Split,
+  Ask,
+  Adopt,
+  Agree,
+  Forbid,
+  Refuse,
+  Exhaust,
+}
 
 abbrev pub is_same : Side → Side → Bool
 is_same Left Left = true
@@ -34,10 +44,12 @@ module _ {O : Type 0} (t : Tree O) (s : State O) where
   allows side = allows_of s.held (proposed_in (half s side).slot) (half s side).forbidden
 
   abbrev pub may_ask : Side → Bool
-  may_ask side = has_tried_all && (s.has_split && (not (is_some (half s side).slot) && leaves_free (side_of s.trial) side))
+  may_ask side = has_tried_all
+      && (s.has_split && (not (is_some (half s side).slot) && leaves_free (side_of s.trial) side))
 
   abbrev pub may_adopt : Side → Bool
-  may_adopt side = seeks s && (not (is_some s.trial) && (not (is_exhausted (answered_in (half s (other side)).slot)) && allows side))
+  may_adopt side = seeks s &&
+      (not (is_some s.trial) && (not (is_exhausted (answered_in (half s (other side)).slot)) && allows side))
 
   abbrev pub may_agree : Option Side → Bool
   may_agree None = false
@@ -45,14 +57,17 @@ module _ {O : Type 0} (t : Tree O) (s : State O) where
 
   abbrev pub may_forbid : Option Side → Bool
   may_forbid None = false
-  may_forbid (Some a) = seeks s && (is_exhausted (answered_in (half s (other a)).slot) && on_trial_in (half s (other a)).slot)
+  may_forbid (Some a) = seeks s
+      && (is_exhausted (answered_in (half s (other a)).slot) && on_trial_in (half s (other a)).slot)
 
   abbrev pub may_refuse : Option Side → Bool
   may_refuse None = false
-  may_refuse (Some a) = seeks s && (has_proposal (half s (other a)).slot && not (is_present (generation_of s.held) (half s (other a)).slot))
+  may_refuse (Some a) = seeks s
+      && (has_proposal (half s (other a)).slot && not (is_present (generation_of s.held) (half s (other a)).slot))
 
   abbrev pub may_give_up : Bool
-  may_give_up = has_tried_all && (not (t.parted s.name) || (not (is_some s.trial) && (is_spent s.left.slot || is_spent s.right.slot)))
+  may_give_up = has_tried_all
+      && (not (t.parted s.name) || (not (is_some s.trial) && (is_spent s.left.slot || is_spent s.right.slot)))
 
   abbrev pub may_move : Move → Bool
   may_move Wait = false

@@ -8,7 +8,17 @@ use Rattle.nego_node.specs.declared.answers.Answer.{Answer}
 use Rattle.nego_node.specs.declared.answers.Answer.TheVariants as answer
 use Rattle.nego_node.specs.declared.events.Outcome.TheVariants as outcome
 use Rattle.nego_node.specs.declared.events.Event.{Event}
-use Rattle.nego_node.specs.declared.events.Event.TheVariants.{Received, Tried, Split, Asked, Posted, Adopted, Agreed, Forbidden, Exhausted}
+use Rattle.nego_node.specs.declared.events.Event.TheVariants.{
+  Received,
+  Tried,
+  Split,
+  Asked,
+  Posted,
+  Adopted,
+  Agreed,
+  Forbidden,
+  Exhausted,
+}
 
 -- Two agents and one variable, which the left part binds to a or to b, and the right part to b alone.
 pub data Binding : Type 0 where
@@ -58,7 +68,8 @@ root_history =
     Received (task 1 1 unbound []) ∷ Split
     ∷ Asked Left (task 2 1 unbound []) ∷ Posted Left (proposal (task 2 1 unbound []) to_a) ∷ Adopted Left 1 to_a
     ∷ Asked Right (task 3 1 to_a []) ∷ Posted Right (answer.Exhausted (task 3 1 to_a [])) ∷ Forbidden Left 1 to_a
-    ∷ Asked Left (task 2 2 unbound (to_a ∷ [])) ∷ Posted Left (proposal (task 2 2 unbound (to_a ∷ [])) to_b) ∷ Adopted Left 2 to_b
+    ∷ Asked Left (task 2 2 unbound (to_a ∷ [])) ∷ Posted Left (proposal (task 2 2 unbound (to_a ∷ [])) to_b)
+    ∷ Adopted Left 2 to_b
     ∷ Asked Right (task 3 2 to_b []) ∷ Posted Right (proposal (task 3 2 to_b []) to_b) ∷ Agreed Right 2 to_b ∷ []
 
 abbrev pub left_history : List (Event Binding)
@@ -74,4 +85,5 @@ right_history =
 -- at the node of that name each event is lawful, and the last state has the answer
 abbrev pub Leads : ℕ → List (Event Binding) → Answer Binding → Type 0
 Leads name history said =
-    IsRun tree two_agents (beginning 1 name) history × ((replay two_agents (beginning 1 name) history).answer ≡ Some said)
+    IsRun tree two_agents (beginning 1 name) history
+    × ((replay two_agents (beginning 1 name) history).answer ≡ Some said)

@@ -1,3 +1,5 @@
+//! The moves of a node other than to try an item and to split.
+
 ghost use Rattle.std.specs.Prelude.{◌≡◌, ◌≢◌, [], ◌++◌, ◌∷◌, ◌<◌, OnOk, IfOk, OnErr};
 ghost use Rattle.nego_node.specs.Moves.{MayMove, Did};
 ghost use Rattle.nego_node.specs.declared.moves.Move.TheVariants as moves;
@@ -16,7 +18,8 @@ impl<F: Field> NodeState<F> {
         requires spare { 0 < self.old.spare }
         requires lawful { MayMove (F.around self.old.site) self.old.state (moves.Ask side) }
         ensures site { self.new.site ≡ self.old.site }
-        ensures did { OnOk result (Did F.Offer.tree (F.around self.old.site) (moves.Ask side) self.old.state self.new.state self.old.history self.new.history) }
+        ensures did { OnOk result (Did F.Offer.tree (F.around self.old.site)
+            (moves.Ask side) self.old.state self.new.state self.old.history self.new.history) }
         ensures state_after_err { OnErr result (self.new.state ≡ self.old.state) }
         ensures history_after_err { OnErr result (self.new.history ≡ self.old.history) }
     {
@@ -34,7 +37,8 @@ impl<F: Field> NodeState<F> {
         requires spare { 0 < self.old.spare }
         requires lawful { MayMove (F.around self.old.site) self.old.state (moves.Adopt side) }
         ensures site { self.new.site ≡ self.old.site }
-        ensures did { OnOk result (Did F.Offer.tree (F.around self.old.site) (moves.Adopt side) self.old.state self.new.state self.old.history self.new.history) }
+        ensures did { OnOk result (Did F.Offer.tree (F.around self.old.site)
+            (moves.Adopt side) self.old.state self.new.state self.old.history self.new.history) }
         ensures state_after_err { OnErr result (self.new.state ≡ self.old.state) }
         ensures history_after_err { OnErr result (self.new.history ≡ self.old.history) }
     {
@@ -54,7 +58,8 @@ impl<F: Field> NodeState<F> {
         requires spare { 0 < self.old.spare }
         requires lawful { MayMove (F.around self.old.site) self.old.state moves.Agree }
         ensures site { self.new.site ≡ self.old.site }
-        ensures did { OnOk result (Did F.Offer.tree (F.around self.old.site) moves.Agree self.old.state self.new.state self.old.history self.new.history) }
+        ensures did { OnOk result (Did F.Offer.tree
+            (F.around self.old.site) moves.Agree self.old.state self.new.state self.old.history self.new.history) }
         ensures state_after_err { OnErr result (self.new.state ≡ self.old.state) }
         ensures history_after_err { OnErr result (self.new.history ≡ self.old.history) }
     {
@@ -78,7 +83,8 @@ impl<F: Field> NodeState<F> {
         requires spare { 0 < self.old.spare }
         requires lawful { MayMove (F.around self.old.site) self.old.state moves.Forbid }
         ensures site { self.new.site ≡ self.old.site }
-        ensures did { OnOk result (Did F.Offer.tree (F.around self.old.site) moves.Forbid self.old.state self.new.state self.old.history self.new.history) }
+        ensures did { OnOk result (Did F.Offer.tree
+            (F.around self.old.site) moves.Forbid self.old.state self.new.state self.old.history self.new.history) }
         ensures state_after_err { OnErr result (self.new.state ≡ self.old.state) }
         ensures history_after_err { OnErr result (self.new.history ≡ self.old.history) }
     {
@@ -100,7 +106,8 @@ impl<F: Field> NodeState<F> {
         requires spare { 0 < self.old.spare }
         requires lawful { MayMove (F.around self.old.site) self.old.state moves.Refuse }
         ensures site { self.new.site ≡ self.old.site }
-        ensures did { OnOk result (Did F.Offer.tree (F.around self.old.site) moves.Refuse self.old.state self.new.state self.old.history self.new.history) }
+        ensures did { OnOk result (Did F.Offer.tree
+            (F.around self.old.site) moves.Refuse self.old.state self.new.state self.old.history self.new.history) }
         ensures state_after_err { OnErr result (self.new.state ≡ self.old.state) }
         ensures history_after_err { OnErr result (self.new.history ≡ self.old.history) }
     {
@@ -118,7 +125,8 @@ impl<F: Field> NodeState<F> {
         requires spare { 0 < self.old.spare }
         requires lawful { MayMove (F.around self.old.site) self.old.state moves.Exhaust }
         ensures site { self.new.site ≡ self.old.site }
-        ensures did { OnOk result (Did F.Offer.tree (F.around self.old.site) moves.Exhaust self.old.state self.new.state self.old.history self.new.history) }
+        ensures did { OnOk result (Did F.Offer.tree
+            (F.around self.old.site) moves.Exhaust self.old.state self.new.state self.old.history self.new.history) }
         ensures state_after_err { OnErr result (self.new.state ≡ self.old.state) }
         ensures history_after_err { OnErr result (self.new.history ≡ self.old.history) }
     {
@@ -135,7 +143,8 @@ impl<F: Field> NodeState<F> {
         requires no_try { step ≢ moves.Try }
         requires no_split { step ≢ moves.Split }
         ensures site { self.new.site ≡ self.old.site }
-        ensures did { OnOk result (Did F.Offer.tree (F.around self.old.site) step self.old.state self.new.state self.old.history self.new.history) }
+        ensures did { OnOk result (Did F.Offer.tree
+            (F.around self.old.site) step self.old.state self.new.state self.old.history self.new.history) }
         ensures state_after_err { OnErr result (self.new.state ≡ self.old.state) }
         ensures history_after_err { OnErr result (self.new.history ≡ self.old.history) }
     {
@@ -157,7 +166,8 @@ impl<F: Field> NodeState<F> {
         requires no_try { step ≢ moves.Try }
         requires no_split { step ≢ moves.Split }
         ensures site { self.new.site ≡ self.old.site }
-        ensures did { OnOk result (Did F.Offer.tree (F.around self.old.site) step self.old.state self.new.state self.old.history self.new.history) }
+        ensures did { OnOk result (Did F.Offer.tree
+            (F.around self.old.site) step self.old.state self.new.state self.old.history self.new.history) }
         ensures state_after_err { OnErr result (self.new.state ≡ self.old.state) }
         ensures history_after_err { OnErr result (self.new.history ≡ self.old.history) }
     {

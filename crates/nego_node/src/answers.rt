@@ -1,3 +1,5 @@
+//! What a node answers to a task, with its truth.
+
 ghost use Rattle.std.specs.Prelude.{◌≡◌, IfOk};
 ghost use Rattle.nego_node.specs.Truth.{Serves, NothingServes};
 ghost use Rattle.nego_node.specs.Lawful.{task_of};

@@ -1,14 +1,23 @@
+//! The single events at a node that a move makes, where there is room for them.
+
 ghost use Rattle.std.specs.Prelude.{◌≡◌, [], ◌++◌, ◌∷◌, ◌<◌, true, Some, None, OnOk, IfOk, OnErr};
 ghost use Rattle.nego_node.specs.Machine.{after, half, other, part_of, task_for, has_proposal};
 ghost use Rattle.nego_node.specs.Lawful.{MayAsk, MayAdopt, MayAgree, MayForbid, MayRefuse, MayGiveUp};
-ghost use Rattle.nego_node.specs.declared.events.Event.TheVariants.{Asked, Adopted, Agreed, Forbidden, Refused, Exhausted as GiveUp};
+ghost use Rattle.nego_node.specs.declared.events.Event.TheVariants.{
+  Asked,
+  Adopted,
+  Agreed,
+  Forbidden,
+  Refused,
+  Exhausted as GiveUp,
+};
 
 use crate::answers::{Answer, Exhausted, Proposal};
 use crate::events::Event;
 use crate::node::NodeState;
 use crate::parts::{Asking, Tested};
 use crate::tasks::{Side, Task};
-use containers::{Shared, append_owners, copy_owners};
+use containers::Shared;
 use nego_laws::field::{Field, Offer};
 use std::alloc::AllocError;
 
@@ -19,6 +28,7 @@ fn part_name<F: Field>(field: &F, site: &F::Site, side: Side) -> u128
     ensures { result ≡ part_of (F.named site.now) side }
 {
     let name = field.name(site);
+    // For the proof alone: a site that has parts has room for their names.
     let _parted = field.has_parts(site);
     match side {
         Side::Left => 2 * name,
@@ -67,13 +77,17 @@ impl<F: Field> NodeState<F> {
         requires spare { 0 < self.old.spare }
         requires same { same ≡ offer }
         requires stays { stays ≡ has_proposal (half self.old.state (other side)).slot }
-        requires lawful { MayAdopt (F.around self.old.site) self.old.state side (half self.old.state side).generation offer }
+        requires lawful { MayAdopt (F.around self.old.site) self.old.state side
+            (half self.old.state side).generation offer }
         ensures site { self.new.site ≡ self.old.site }
-        ensures state { self.new.state ≡ after (F.around self.old.site) self.old.state (Adopted side (half self.old.state side).generation offer) }
-        ensures history { self.new.history ≡ self.old.history ++ Adopted side (half self.old.state side).generation offer ∷ [] }
+        ensures state { self.new.state
+            ≡ after (F.around self.old.site) self.old.state (Adopted side (half self.old.state side).generation offer) }
+        ensures history { self.new.history ≡ self.old.history
+            ++ Adopted side (half self.old.state side).generation offer ∷ [] }
     {
         let generation = self.side_generation(side);
-        let _short = self.history.len();
+        // For the proof alone: the history is shorter than 2^63, and so a generation can rise by one.
+        let _length = self.history.len();
         self.parts.empty_other_unless(side, stays);
         self.trial = Some(Tested { side, offer: same });
         self.history.put(Event::Adopted(side, generation, offer));
@@ -92,12 +106,16 @@ impl<F: Field> NodeState<F> {
         requires spare { 0 < self.old.spare }
         requires same { same ≡ offer }
         requires held { self.old.state.held ≡ Some task }
-        requires lawful { MayAgree (F.around self.old.site) self.old.state side (half self.old.state side).generation offer }
+        requires lawful { MayAgree (F.around self.old.site) self.old.state side
+            (half self.old.state side).generation offer }
         ensures site { self.new.site ≡ self.old.site }
-        ensures state { self.new.state ≡ after (F.around self.old.site) self.old.state (Agreed side (half self.old.state side).generation offer) }
-        ensures history { self.new.history ≡ self.old.history ++ Agreed side (half self.old.state side).generation offer ∷ [] }
+        ensures state { self.new.state
+            ≡ after (F.around self.old.site) self.old.state (Agreed side (half self.old.state side).generation offer) }
+        ensures history { self.new.history ≡ self.old.history ++ Agreed side (half self.old.state side).generation offer
+            ∷ [] }
     {
         let generation = self.side_generation(side);
+        // For the proof alone: that a field is read says what the node keeps, of which the answer's truth follows.
         let _name = &self.name;
         self.answer = Some(Answer::Proposal(Proposal::new(task, same)));
         self.history.put(Event::Agreed(side, generation, offer));
@@ -116,13 +134,17 @@ impl<F: Field> NodeState<F> {
         requires same { same ≡ offer }
         requires lawful { MayForbid self.old.state side (half self.old.state side).generation offer }
         ensures site { self.new.site ≡ self.old.site }
-        ensures state { OnOk result (self.new.state ≡ after (F.around self.old.site) self.old.state (Forbidden side (half self.old.state side).generation offer)) }
-        ensures history { OnOk result (self.new.history ≡ self.old.history ++ Forbidden side (half self.old.state side).generation offer ∷ []) }
+        ensures state { OnOk result
+            (self.new.state ≡ after (F.around self.old.site) self.old.state
+            (Forbidden side (half self.old.state side).generation offer)) }
+        ensures history { OnOk result
+            (self.new.history ≡ self.old.history ++ Forbidden side (half self.old.state side).generation offer ∷ []) }
         ensures state_after_err { OnErr result (self.new.state ≡ self.old.state) }
         ensures history_after_err { OnErr result (self.new.history ≡ self.old.history) }
     {
         let generation = self.side_generation(side);
-        let _short = self.history.len();
+        // For the proof alone: the history is shorter than 2^63, and so a generation can rise by one.
+        let _length = self.history.len();
         self.parts.forbid(side, same)?;
         self.trial = None;
         self.history.put(Event::Forbidden(side, generation, offer));
@@ -135,11 +157,14 @@ impl<F: Field> NodeState<F> {
         requires spare { 0 < self.old.spare }
         requires lawful { MayRefuse self.old.state side (half self.old.state side).generation }
         ensures site { self.new.site ≡ self.old.site }
-        ensures state { self.new.state ≡ after (F.around self.old.site) self.old.state (Refused side (half self.old.state side).generation) }
-        ensures history { self.new.history ≡ self.old.history ++ Refused side (half self.old.state side).generation ∷ [] }
+        ensures state { self.new.state
+            ≡ after (F.around self.old.site) self.old.state (Refused side (half self.old.state side).generation) }
+        ensures history { self.new.history ≡ self.old.history ++ Refused side (half self.old.state side).generation
+            ∷ [] }
     {
         let generation = self.side_generation(side);
-        let _short = self.history.len();
+        // For the proof alone: the history is shorter than 2^63, and so a generation can rise by one.
+        let _length = self.history.len();
         self.parts.empty(side);
         self.history.put(Event::Refused(side, generation));
     }
@@ -154,6 +179,7 @@ impl<F: Field> NodeState<F> {
         ensures state { self.new.state ≡ after (F.around self.old.site) self.old.state GiveUp }
         ensures history { self.new.history ≡ self.old.history ++ GiveUp ∷ [] }
     {
+        // For the proof alone: that a field is read says what the node keeps, of which the answer's truth follows.
         let _name = &self.name;
         self.answer = Some(Answer::Exhausted(Exhausted::new(task)));
         self.history.put(Event::Exhausted);
@@ -173,13 +199,12 @@ impl<F: Field> NodeState<F> {
         let generation = self.side_generation(side);
         let alloc = self.history.allocator();
         let node = part_name(field, &self.site, side);
-        let mut ban = copy_owners(alloc, &held.ban)?;
-        let given = match &self.trial {
+        let (given, ban) = match &self.trial {
             None => {
-                append_owners(&mut ban, &self.parts.part(side).forbidden)?;
-                held.given.copy()?
+                let forbidden = &self.parts.part(side).forbidden;
+                (held.given.copy()?, held.ban.followed_by(alloc, forbidden)?)
             }
-            Some(trial) => trial.offer.copy()?,
+            Some(trial) => (trial.offer.copy()?, held.ban.copy()?),
         };
         Ok(Task {
             round: self.round,

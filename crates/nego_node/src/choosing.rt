@@ -1,7 +1,31 @@
+//! Which moves are lawful, and which one is next.
+
 ghost use Rattle.std.specs.Prelude.{◌≡◌, ◌≢◌, ◌↔◌, ◌&&◌, not, true, IsTrue, IsSome, Some, is_some};
 ghost use Rattle.nego_node.specs.Machine.{half, other, generation_of, answered_in};
-ghost use Rattle.nego_node.specs.Moves.{seeks, is_exhausted, on_trial_in, is_present, is_spent, next_move, move_without_trial, move_in_trial, MayMove, OnlyMessages};
-ghost use Rattle.nego_node.specs.Decisions.{has_tried_all, leaves_free, allows, may_ask, may_adopt, may_agree, may_forbid, may_refuse, may_give_up, may_move};
+ghost use Rattle.nego_node.specs.Moves.{
+  seeks,
+  is_exhausted,
+  on_trial_in,
+  is_present,
+  is_spent,
+  next_move,
+  move_without_trial,
+  move_in_trial,
+  MayMove,
+  OnlyMessages,
+};
+ghost use Rattle.nego_node.specs.Decisions.{
+  has_tried_all,
+  leaves_free,
+  allows,
+  may_ask,
+  may_adopt,
+  may_agree,
+  may_forbid,
+  may_refuse,
+  may_give_up,
+  may_move,
+};
 ghost use Rattle.nego_node.specs.declared.moves.Move.TheVariants.{Wait as Waiting};
 
 use crate::answers::Answer;
@@ -139,16 +163,20 @@ impl<F: Field> NodeState<F> {
         }
     }
 
-    /// The next move: the first that fits. Without an open task wait; while an item is left try it; without parts give up; split. Without a
-    /// trial give up where a side that was asked without one is exhausted, adopt a proposal, the left one first, ask the left side, and, who
-    /// is eager, the right one too. In a trial ask the other side, or do what its answer calls for. The move is lawful unless it is Wait,
-    /// and who is eager waits only where nothing is lawful but to take a message. It takes no memory.
+    /// The next move: the first that fits. Without an open task wait; while an item is left try it; without parts give
+    /// up; split. Without a trial give up where a side that was asked without one is exhausted, adopt a proposal, the
+    /// left one first, ask the left side, and, who is eager, the right one too. In a trial ask the other side, or do
+    /// what its answer calls for. The move is lawful unless it is Wait, and who is eager waits only where nothing is
+    /// lawful but to take a message. It takes no memory.
     pub fn next_move(&self, field: &F, eager: bool) -> Move
         requires tree { F.around self.now.site ≡ F.tree field.now }
         ensures next { result ≡ next_move (F.around self.now.site) eager self.now.state }
         ensures lawful { result ≢ Waiting → MayMove (F.around self.now.site) self.now.state result }
-        ensures waits { eager ≡ true → result ≡ Waiting → OnlyMessages F.Offer.tree (F.around self.now.site) self.now.state }
+        ensures waits { eager ≡ true → result ≡ Waiting
+            → OnlyMessages F.Offer.tree (F.around self.now.site) self.now.state }
     {
+        // For the proof alone: that a field is read says what the node keeps, of which it follows that the move is
+        // lawful.
         let _name = &self.name;
         self.first_move(field, eager)
     }
@@ -213,7 +241,8 @@ impl<F: Field> NodeState<F> {
         }
     }
 
-    /// Whether the other side than that of the trial has answered that no offer does, to what it was asked for the trial.
+    /// Whether the other side than that of the trial has answered that no offer does, to what it was asked for the
+    /// trial.
     fn may_forbid(&self, trial: Option<Side>) -> bool
         ensures { result ≡ may_forbid (F.around self.now.site) self.now.state trial }
     {
@@ -253,6 +282,7 @@ impl<F: Field> NodeState<F> {
         requires tree { F.around self.now.site ≡ F.tree field.now }
         ensures { IsTrue result ↔ MayMove (F.around self.now.site) self.now.state step }
     {
+        // For the proof alone: that a field is read says what the node keeps, of which the equivalence follows.
         let _name = &self.name;
         self.may_move(field, step)
     }

@@ -1,6 +1,18 @@
+//! The state of a node, with its history, and what can be read of it.
+
 ghost use Rattle.std.specs.Prelude.{◌≡◌, All, [], ◌≤◌, Some, OnOk, IfOk, IsSome, IfSome, OnErr, option_copied};
 ghost use Rattle.std.specs.Option.{is_some};
-ghost use Rattle.nego_node.specs.Machine.{beginning, half, generation_of, asked_in, answered_in, proposed_in, has_proposal, side_of, offer_of};
+ghost use Rattle.nego_node.specs.Machine.{
+  beginning,
+  half,
+  generation_of,
+  asked_in,
+  answered_in,
+  proposed_in,
+  has_proposal,
+  side_of,
+  offer_of,
+};
 ghost use Rattle.nego_node.specs.Lawful.{task_of};
 ghost use Rattle.nego_node.specs.NodeValue.{IsNode};
 ghost use Rattle.nego_node.specs.Sound.{Belongs, IsTrueAnswer};
@@ -115,11 +127,12 @@ impl<F: Field> NodeState<F> {
         }
     }
 
-    /// The events that led to the state. They are a run of lawful events from the beginning, which replayed give the state, and the node keeps
-    /// what every lawful event keeps.
+    /// The events that led to the state. They are a run of lawful events from the beginning, which replayed give the
+    /// state, and the node keeps what every lawful event keeps.
     pub fn history(&self) -> &Events<F::Offer>
         ensures events { result.now.items ≡ self.now.history }
-        ensures node { IsNode F.Offer.tree (F.around self.now.site) (F.named self.now.site) self.now.state self.now.history }
+        ensures node { IsNode F.Offer.tree (F.around self.now.site)
+            (F.named self.now.site) self.now.state self.now.history }
     {
         &self.history
     }
@@ -157,6 +170,7 @@ impl<F: Field> NodeState<F> {
         ensures answer { option_copied result ≡ answered_in (half self.now.state side).slot }
         ensures truth { IfSome result (λ answer. IsTrueAnswer F.Offer.tree (F.around self.now.site) answer.now) }
     {
+        // For the proof alone: that a field is read says what the node keeps, of which the answer's truth follows.
         let _name = &self.name;
         match self.posted_answer(side) {
             None => None,
@@ -194,7 +208,7 @@ impl<F: Field> NodeState<F> {
     }
 
     /// The generation of the held task, 0 before the first.
-    pub(crate) fn held_generation(&self) -> u64
+    pub fn held_generation(&self) -> u64
         ensures { result ≡ generation_of self.now.state.held }
     {
         match self.held_task() {

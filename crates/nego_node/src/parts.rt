@@ -1,8 +1,19 @@
+//! What a node keeps of its two parts.
+
 ghost use Rattle.std.specs.Prelude.{◌≡◌, ◌+◌, ◌<◌, ◌^◌, None, [], List, OnOk, OnErr, if◌then◌else◌};
 ghost use Rattle.nego_node.specs.Machine.{other};
-ghost use Rattle.nego_node.specs.Parts.{part, joined, with_part, emptied_part, cleared_part, forbidding_part, filled_part, marked_part};
+ghost use Rattle.nego_node.specs.Parts.{
+  part,
+  joined,
+  with_part,
+  emptied_part,
+  cleared_part,
+  forbidding_part,
+  filled_part,
+  marked_part,
+};
 
-use crate::tasks::{Offers, Side, Task};
+use crate::tasks::{Side, Task};
 use containers::{Items, Shared};
 use std::alloc::{AllocError, Global};
 
@@ -18,7 +29,7 @@ pub(crate) struct Asking<O> {
 /// What a node keeps of one of its parts.
 #[derive(Drop)]
 pub(crate) struct Part<O> {
-    pub(crate) forbidden: Offers<O>,
+    pub(crate) forbidden: Items<Shared<O>>,
     pub(crate) generation: u64,
     pub(crate) slot: Option<Asking<O>>,
 }
@@ -145,7 +156,8 @@ impl<O: Drop> Parts<O> {
     /// Empties the slot of the other side unless it is to be kept.
     pub(crate) fn empty_other_unless(&mut self, side: Side, kept: bool)
         requires { (part self.old (other side)).generation < 2 ^ 63 + 2 }
-        ensures { self.new ≡ joined side (part self.old side) (if kept then part self.old (other side) else emptied_part (part self.old (other side))) }
+        ensures { self.new ≡ joined side (part self.old side)
+            (if kept then part self.old (other side) else emptied_part (part self.old (other side))) }
     {
         if !kept {
             match side {
@@ -159,7 +171,8 @@ impl<O: Drop> Parts<O> {
     pub(crate) fn forbid(&mut self, side: Side, offer: Shared<O>) -> Result<(), AllocError>
         requires left { self.old.left.generation < 2 ^ 63 + 2 }
         requires right { self.old.right.generation < 2 ^ 63 + 2 }
-        ensures ok { OnOk result (self.new ≡ joined side (forbidding_part (part self.old side) offer) (emptied_part (part self.old (other side)))) }
+        ensures ok { OnOk result (self.new
+            ≡ joined side (forbidding_part (part self.old side) offer) (emptied_part (part self.old (other side)))) }
         ensures err { OnErr result (self.new ≡ self.old) }
     {
         match side {

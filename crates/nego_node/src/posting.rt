@@ -1,4 +1,22 @@
-ghost use Rattle.std.specs.Prelude.{◌≡◌, [], ◌++◌, ◌∷◌, ◌<◌, ◌↔◌, All, Some, IsTrue, OnOk, IfErr, OnErr, length};
+//! The answers of parts that a node takes.
+
+ghost use Rattle.std.specs.Prelude.{
+  ◌≡◌,
+  [],
+  ◌++◌,
+  ◌∷◌,
+  ◌<◌,
+  ◌≤◌,
+  ◌+◌,
+  ◌↔◌,
+  All,
+  Some,
+  IsTrue,
+  OnOk,
+  IfErr,
+  OnErr,
+  length,
+};
 ghost use Rattle.nego_node.specs.Machine.{after, half, asked_in};
 ghost use Rattle.nego_node.specs.Lawful.{MayPost, task_of};
 ghost use Rattle.nego_node.specs.Sound.{Belongs, IsTrueAnswer};
@@ -23,6 +41,7 @@ impl<F: Field> NodeState<F> {
         ensures site { self.new.site ≡ self.old.site }
         ensures state { self.new.state ≡ after (F.around self.old.site) self.old.state (Posted side answer) }
         ensures history { self.new.history ≡ self.old.history ++ Posted side answer ∷ [] }
+        ensures spare { self.old.spare ≤ self.new.spare + 1 }
     {
         let place = self.history.len();
         self.parts.mark(side, place);
@@ -41,8 +60,9 @@ impl<F: Field> NodeState<F> {
         }
     }
 
-    /// Takes the answer of a part. `Stale` comes exactly where the answer's generation differs from the side's, `Stranger` exactly
-    /// where they agree and the part is not asked that very task, and `Twice` exactly where it is and has answered it.
+    /// Takes the answer of a part. It uses the room of one event, and none where it refuses the answer. `Stale` comes
+    /// exactly where the answer's generation differs from the side's, `Stranger` exactly where they agree and the part
+    /// is not asked that very task, and `Twice` exactly where it is and has answered it.
     pub fn post(
         &mut self,
         field: &F,
@@ -56,9 +76,11 @@ impl<F: Field> NodeState<F> {
         ensures lawful { OnOk result (MayPost self.old.state side answer) }
         ensures state { OnOk result (self.new.state ≡ after (F.tree field.now) self.old.state (Posted side answer)) }
         ensures history { OnOk result (self.new.history ≡ self.old.history ++ Posted side answer ∷ []) }
+        ensures spare { OnOk result (self.old.spare ≤ self.new.spare + 1) }
         ensures refused { IfErr result (λ misfit. RefusesAnswer self.old.state side answer misfit) }
         ensures state_after_err { OnErr result (self.new.state ≡ self.old.state) }
         ensures history_after_err { OnErr result (self.new.history ≡ self.old.history) }
+        ensures spare_after_err { OnErr result (self.new.spare ≡ self.old.spare) }
     {
         let generation = self.side_generation(side);
         let brought = answer.task().get();

@@ -1,4 +1,6 @@
-ghost use Rattle.std.specs.Prelude.{◌≡◌, [], ◌++◌, ◌∷◌, ◌<◌, true, false, OnOk, IfErr, OnErr};
+//! The tasks that a node takes.
+
+ghost use Rattle.std.specs.Prelude.{◌≡◌, [], ◌++◌, ◌∷◌, ◌<◌, ◌≤◌, ◌+◌, true, false, OnOk, IfErr, OnErr};
 ghost use Rattle.nego_node.specs.Machine.{after, goes_on, resumed, fresh};
 ghost use Rattle.nego_node.specs.Lawful.{MayReceive};
 ghost use Rattle.nego_node.specs.Sound.{Belongs};
@@ -45,6 +47,7 @@ impl<F: Field> NodeState<F> {
         ensures site { self.new.site ≡ self.old.site }
         ensures state { self.new.state ≡ resumed self.old.state task }
         ensures history { self.new.history ≡ self.old.history ++ Received task ∷ [] }
+        ensures spare { self.old.spare ≤ self.new.spare + 1 }
     {
         let place = self.history.len();
         self.history.put(Event::Received(task));
@@ -62,6 +65,7 @@ impl<F: Field> NodeState<F> {
         ensures site { self.new.site ≡ self.old.site }
         ensures state { self.new.state ≡ fresh self.old.state task }
         ensures history { self.new.history ≡ self.old.history ++ Received task ∷ [] }
+        ensures spare { self.old.spare ≤ self.new.spare + 1 }
     {
         let alloc = self.history.allocator();
         let place = self.history.len();
@@ -73,9 +77,10 @@ impl<F: Field> NodeState<F> {
         self.answer = None;
     }
 
-    /// Takes a task, which must be newer than the held one. The node resumes where it answered a proposal under the same given offer
-    /// and the new ban bans what the held one did and the proposal too. Else it begins anew, which cancels what was asked below.
-    /// `Stale` comes exactly where the task is not newer, `Stranger` exactly where it is newer and of another round or node.
+    /// Takes a task, which must be newer than the held one. The node resumes where it answered a proposal under the
+    /// same given offer and the new ban bans what the held one did and the proposal too. Else it begins anew, which
+    /// cancels what was asked below. It uses the room of one event, and none where it refuses the task. `Stale` comes
+    /// exactly where the task is not newer, `Stranger` exactly where it is newer and of another round or node.
     pub fn receive(
         &mut self,
         field: &F,
@@ -88,9 +93,11 @@ impl<F: Field> NodeState<F> {
         ensures lawful { OnOk result (MayReceive self.old.state task) }
         ensures state { OnOk result (self.new.state ≡ after (F.tree field.now) self.old.state (Received task)) }
         ensures history { OnOk result (self.new.history ≡ self.old.history ++ Received task ∷ []) }
+        ensures spare { OnOk result (self.old.spare ≤ self.new.spare + 1) }
         ensures refused { IfErr result (λ misfit. Refuses self.old.state task misfit) }
         ensures state_after_err { OnErr result (self.new.state ≡ self.old.state) }
         ensures history_after_err { OnErr result (self.new.history ≡ self.old.history) }
+        ensures spare_after_err { OnErr result (self.new.spare ≡ self.old.spare) }
     {
         let held = self.held_generation();
         let brought = task.get();

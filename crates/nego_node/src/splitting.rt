@@ -1,7 +1,11 @@
+//! The split of a node into its parts.
+
 ghost use Rattle.std.specs.Prelude.{◌≡◌, [], ◌++◌, ◌∷◌, ◌<◌, OnOk, IfOk, OnErr};
 ghost use Rattle.nego_laws.specs.Tree.{left_of, right_of};
 ghost use Rattle.nego_node.specs.Machine.{after};
 ghost use Rattle.nego_node.specs.Lawful.{MaySplit};
+ghost use Rattle.nego_node.specs.Moves.{Did};
+ghost use Rattle.nego_node.specs.declared.moves.Move.TheVariants as moves;
 ghost use Rattle.nego_node.specs.declared.events.Event.TheVariants.{Split};
 
 use crate::events::Event;
@@ -29,9 +33,10 @@ impl<F: Field> NodeState<F> {
         requires lawful { MaySplit (F.around self.old.site) self.old.state }
         ensures site { self.new.site ≡ self.old.site }
         ensures trees { IfOk result (λ two. (F.around two.0 ≡ F.tree field.now) × (F.around two.1 ≡ F.tree field.now)) }
-        ensures names { IfOk result (λ two. (F.named two.0 ≡ left_of self.old.state.name) × (F.named two.1 ≡ right_of self.old.state.name)) }
-        ensures state { OnOk result (self.new.state ≡ after (F.tree field.now) self.old.state Split) }
-        ensures history { OnOk result (self.new.history ≡ self.old.history ++ Split ∷ []) }
+        ensures names { IfOk result
+            (λ two. (F.named two.0 ≡ left_of self.old.state.name) × (F.named two.1 ≡ right_of self.old.state.name)) }
+        ensures did { OnOk result (Did F.Offer.tree
+            (F.around self.old.site) moves.Split self.old.state self.new.state self.old.history self.new.history) }
         ensures state_after_err { OnErr result (self.new.state ≡ self.old.state) }
         ensures history_after_err { OnErr result (self.new.history ≡ self.old.history) }
     {

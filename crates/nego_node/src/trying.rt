@@ -1,6 +1,10 @@
+//! The attempts at the items of a node.
+
 ghost use Rattle.std.specs.Prelude.{◌≡◌, [], ◌++◌, ◌∷◌, ◌<◌, Some, OnOk, IfOk, OnErr};
 ghost use Rattle.nego_node.specs.Machine.{after};
-ghost use Rattle.nego_node.specs.Lawful.{MayTry, CanTry, DidTry, Ends};
+ghost use Rattle.nego_node.specs.Lawful.{MayTry, CanTry, Ends};
+ghost use Rattle.nego_node.specs.Moves.{Did};
+ghost use Rattle.nego_node.specs.declared.moves.Move.TheVariants as moves;
 ghost use Rattle.nego_node.specs.Sound.{IsUselessOutcome};
 ghost use Rattle.nego_node.specs.declared.events.Event.TheVariants.{Tried};
 
@@ -21,9 +25,11 @@ impl<F: Field> NodeState<F> {
         requires lawful { MayTry F.Offer.tree (F.around self.old.site) self.old.state self.old.state.next outcome }
         requires useless { IsUselessOutcome outcome }
         ensures site { self.new.site ≡ self.old.site }
-        ensures state { self.new.state ≡ after (F.around self.old.site) self.old.state (Tried self.old.state.next outcome) }
+        ensures state { self.new.state
+            ≡ after (F.around self.old.site) self.old.state (Tried self.old.state.next outcome) }
         ensures history { self.new.history ≡ self.old.history ++ Tried self.old.state.next outcome ∷ [] }
     {
+        // For the proof alone: the number of items is one of 64 bits, and so is the next one.
         let _items = field.items(&self.site);
         self.history.put(Event::Tried(self.next, outcome));
         self.next += 1;
@@ -41,11 +47,14 @@ impl<F: Field> NodeState<F> {
         requires spare { 0 < self.old.spare }
         requires held { self.old.state.held ≡ Some task }
         requires same { other ≡ offer }
-        requires lawful { MayTry F.Offer.tree (F.around self.old.site) self.old.state self.old.state.next (Outcome.Offer offer) }
+        requires lawful { MayTry F.Offer.tree (F.around self.old.site) self.old.state self.old.state.next
+            (Outcome.Offer offer) }
         ensures site { self.new.site ≡ self.old.site }
-        ensures state { self.new.state ≡ after (F.around self.old.site) self.old.state (Tried self.old.state.next (Outcome.Offer offer)) }
+        ensures state { self.new.state
+            ≡ after (F.around self.old.site) self.old.state (Tried self.old.state.next (Outcome.Offer offer)) }
         ensures history { self.new.history ≡ self.old.history ++ Tried self.old.state.next (Outcome.Offer offer) ∷ [] }
     {
+        // For the proof alone: the number of items is one of 64 bits, and so is the next one.
         let _items = field.items(&self.site);
         self.answer = Some(Answer::Proposal(Proposal::new(task, other)));
         self.history
@@ -62,7 +71,8 @@ impl<F: Field> NodeState<F> {
         requires tree { F.around self.now.site ≡ F.tree field.now }
         requires held { self.now.state.held ≡ Some task.now }
         requires exists { self.now.state.next < (F.tree field.now).items self.now.state.name }
-        ensures { IfOk result (λ outcome. Ends F.Offer.tree (F.tree field.now) self.now.state.name self.now.state.next task.now outcome) }
+        ensures { IfOk result (λ outcome. Ends F.Offer.tree
+            (F.tree field.now) self.now.state.name self.now.state.next task.now outcome) }
     {
         let alloc = self.history.allocator();
         let found = match field.attempt(&self.site, self.next, task.given.get())? {
@@ -88,7 +98,8 @@ impl<F: Field> NodeState<F> {
         requires held { self.old.state.held ≡ Some task }
         requires lawful { MayTry F.Offer.tree (F.around self.old.site) self.old.state self.old.state.next outcome }
         ensures site { self.new.site ≡ self.old.site }
-        ensures did { OnOk result (DidTry F.Offer.tree (F.around self.old.site) self.old.state self.new.state self.old.history self.new.history) }
+        ensures did { OnOk result (Did F.Offer.tree
+            (F.around self.old.site) moves.Try self.old.state self.new.state self.old.history self.new.history) }
         ensures state_after_err { OnErr result (self.new.state ≡ self.old.state) }
         ensures history_after_err { OnErr result (self.new.history ≡ self.old.history) }
     {
@@ -109,7 +120,8 @@ impl<F: Field> NodeState<F> {
         requires spare { 0 < self.old.spare }
         requires lawful { CanTry (F.around self.old.site) self.old.state }
         ensures site { self.new.site ≡ self.old.site }
-        ensures did { OnOk result (DidTry F.Offer.tree (F.around self.old.site) self.old.state self.new.state self.old.history self.new.history) }
+        ensures did { OnOk result (Did F.Offer.tree
+            (F.around self.old.site) moves.Try self.old.state self.new.state self.old.history self.new.history) }
         ensures state_after_err { OnErr result (self.new.state ≡ self.old.state) }
         ensures history_after_err { OnErr result (self.new.history ≡ self.old.history) }
     {
@@ -123,7 +135,8 @@ impl<F: Field> NodeState<F> {
         requires tree { F.around self.old.site ≡ F.tree field.now }
         requires lawful { CanTry (F.around self.old.site) self.old.state }
         ensures site { self.new.site ≡ self.old.site }
-        ensures did { OnOk result (DidTry F.Offer.tree (F.around self.old.site) self.old.state self.new.state self.old.history self.new.history) }
+        ensures did { OnOk result (Did F.Offer.tree
+            (F.around self.old.site) moves.Try self.old.state self.new.state self.old.history self.new.history) }
         ensures state_after_err { OnErr result (self.new.state ≡ self.old.state) }
         ensures history_after_err { OnErr result (self.new.history ≡ self.old.history) }
     {

@@ -1,0 +1,12 @@
+pub mod Turning
+pub mod Places
+pub mod Playing
+pub mod Reading
+pub mod Acting
+pub mod Here
+pub mod Splitting
+pub mod Picked
+pub mod Facts
+pub mod Worked
+pub mod Sorted
+pub mod Scheduling

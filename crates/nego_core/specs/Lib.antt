@@ -1,0 +1,11 @@
+pub mod Acts
+pub mod Turns
+pub mod Picking
+pub mod Links
+pub mod Bare
+pub mod Plays
+pub mod BoardValue
+pub mod Verdict
+pub mod Facts
+pub mod Worked
+pub mod Schedule

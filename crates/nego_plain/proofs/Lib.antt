@@ -1,0 +1,23 @@
+mod Sums
+mod Tests
+mod OwnMoves
+mod TrialEnds
+mod PartMoves
+mod Within
+mod Taking
+mod OwnEvents
+mod Falling
+mod Awaiting
+mod Boards
+mod Joining
+mod Picking
+mod Happening
+mod PartStep
+mod Running
+mod Playing
+mod Attempts
+mod Left
+mod Settled
+mod Rows
+mod Depth
+pub mod OnePick

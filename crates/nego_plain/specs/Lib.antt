@@ -1,0 +1,9 @@
+pub mod Width
+pub mod PlainOrder
+pub mod Family
+pub mod Rest
+pub mod Fits
+pub mod Views
+pub mod Engine
+pub mod BoardOf
+pub mod Settling
