@@ -1,17 +1,11 @@
-//! What a run begins with.
-
-ghost use Rattle.std.specs.Prelude.{◌≡◌, ◌≤◌, IfOk};
-ghost use Rattle.nego_laws.specs.Sets.{set_tree};
-ghost use Rattle.nego_node.specs.Sound.{Belongs};
+//! The trees that the runs are about. Sets are written as bits: 10 is {1}, 100 is {2}, and 110 is {1, 2}.
 
 use containers::{Items, Shared};
-use nego_laws::field::{Field, Offer};
-use nego_laws::sets::{SetField, SetOffer, SetSite, SetTree};
+use nego_laws::sets::{SetField, SetSite, SetTree};
 use nego_node::node::NodeState;
-use nego_node::tasks::{Offers, Task};
 use std::alloc::{AllocError, Global};
 
-/// The set {1}, as bits.
+/// The set {1}.
 pub(crate) const ONE: u64 = 2;
 
 /// The set {2}.
@@ -23,60 +17,44 @@ pub(crate) const BOTH: u64 = 6;
 /// A node over sets.
 pub(crate) type Node = NodeState<SetField>;
 
-/// A site with the sets that its items need.
-fn site(alloc: Global, name: u128, parted: bool, needs: &[u64]) -> Result<SetSite, AllocError> {
-    let needs = Items::from_slice(alloc, needs)?;
-    Ok(SetSite {
-        name,
-        parted,
-        needs,
-    })
-}
+/// A site: whether it has parts, and the sets that its items need.
+#[derive(Clone, Copy)]
+pub(crate) struct Plan(pub(crate) bool, pub(crate) &'static [u64]);
 
-/// The root without items, and its two leaves.
-fn sites(alloc: Global, left: &[u64], right: &[u64]) -> Result<Items<SetSite>, AllocError> {
+/// A root without items over two leaves.
+pub(crate) const AGREES: [Plan; 3] = [
+    Plan(true, &[]),
+    Plan(false, &[ONE, TWO]),
+    Plan(false, &[TWO]),
+];
+
+/// The same without an item on the right.
+pub(crate) const FORBIDS: [Plan; 3] = [Plan(true, &[]), Plan(false, &[ONE, TWO]), Plan(false, &[])];
+
+/// A root whose left part is such a tree, with a third item on the left, and whose right part is a leaf without items.
+pub(crate) const RESUMES: [Plan; 5] = [
+    Plan(true, &[]),
+    Plan(true, &[]),
+    Plan(false, &[]),
+    Plan(false, &[ONE, TWO, BOTH]),
+    Plan(false, &[TWO]),
+];
+
+fn sites(alloc: Global, plans: &[Plan]) -> Result<Items<SetSite>, AllocError> {
     let mut sites = Items::new(alloc);
-    sites.push(site(alloc, 1, true, &[])?)?;
-    sites.push(site(alloc, 2, false, left)?)?;
-    sites.push(site(alloc, 3, false, right)?)?;
+    for plan in plans {
+        let needs = Items::from_slice(alloc, plan.1)?;
+        sites.push(SetSite {
+            parted: plan.0,
+            needs,
+        })?;
+    }
     Ok(sites)
 }
 
-/// A root without items over two leaves, with the sets that the items of each need.
-pub(crate) fn two_leaves(
-    alloc: Global,
-    left: &[u64],
-    right: &[u64],
-) -> Result<SetField, AllocError> {
-    let sites = sites(alloc, left, right)?;
-    let tree = Shared::new(alloc, SetTree { limit: 8, sites })?;
+/// The field of the sites, which are given in the order of their names from 1 on.
+pub(crate) fn field(alloc: Global, plans: &[Plan]) -> Result<SetField, AllocError> {
+    let sites = sites(alloc, plans)?;
+    let tree = Shared::new(alloc, SetTree { sites })?;
     Ok(SetField { tree })
-}
-
-/// A task with nothing banned.
-pub(crate) fn free_task(
-    alloc: Global,
-    field: &SetField,
-    round: u32,
-    node: u128,
-    generation: u64,
-) -> Result<Shared<Task<SetOffer>>, AllocError>
-    ensures { IfOk result (λ task. Belongs (λ offer. set_tree offer.tree) (set_tree field.now.tree) task) }
-{
-    let given = Shared::new(alloc, field.free()?)?;
-    let task = Task {
-        round,
-        node,
-        generation,
-        given,
-        ban: Items::new(alloc),
-    };
-    Shared::new(alloc, task)
-}
-
-/// The root, with room for its first task.
-pub(crate) fn root(alloc: Global, field: &SetField) -> Result<Node, AllocError>
-    ensures { IfOk result (λ node. set_tree node.site.tree ≡ set_tree field.now.tree) }
-{
-    Ok(NodeState::begin(alloc, field.root()?, 1, 1))
 }
