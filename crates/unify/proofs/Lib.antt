@@ -17,3 +17,4 @@ pub mod Injective
 pub mod Index
 pub mod Depths
 pub mod Remembered
+pub mod Extents

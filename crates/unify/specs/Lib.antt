@@ -7,3 +7,4 @@ pub mod Tests
 pub mod Index
 pub mod Nesting
 pub mod Memo
+pub mod Measure

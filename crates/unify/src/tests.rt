@@ -2,10 +2,14 @@
 
 ghost use Rattle.std.specs.Prelude.{◌≡◌, IfOk, length};
 
-use crate::{Subst, binding, copy, empty, entails, equates, lead, resolve, same, unify, value_of};
+use crate::{
+    Lengths, Subst, binding, copy, empty, entails, equates, lead, measure, no_extents, resolve,
+    same, unify, value_of,
+};
 use containers::{Items, Shared};
 use free_terms::{FTerm, FTerms, Name};
 use std::alloc::{AllocError, Global};
+use std::collections::HashMap;
 
 const X: Name = Name {
     segment: 1,
@@ -135,5 +139,24 @@ fn keeps_the_given_bindings(rt: HostRuntime) -> Result<(), AllocError> {
     assert!(rt; binding(&found, 1).is_none());
     assert!(rt; value_of(&found, X).is_some());
     assert!(rt; value_of(&found, Y).is_none());
+    Ok(())
+}
+
+/// `f(X)` where X is bound to `ggg(Y)`, and Y is written with two bytes: `f(ggg(#0))`.
+#[test]
+fn measures_a_value(rt: HostRuntime) -> Result<(), AllocError> {
+    let alloc = rt.alloc();
+    let s = bound(alloc, X, applied(alloc, 1, FTerm::Meta(Y))?)?;
+    let lengths = Lengths {
+        symbols: vec![in alloc; 1, 3]?,
+        skolems: HashMap::new(alloc),
+        other: 2,
+    };
+    let held = applied(alloc, 0, FTerm::Meta(X))?;
+    let mut noted = no_extents(alloc);
+    let extent = measure(&s, &lengths, &held, 100, &mut noted)?;
+    let length = extent.length;
+    let depth = extent.depth;
+    assert!(rt; length == 10 && depth == 3);
     Ok(())
 }
