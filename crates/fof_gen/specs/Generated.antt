@@ -8,7 +8,9 @@ first_line = codes "fof(s,axiom,p0(a))."
 
 -- what has the one property has the next one
 abbrev pub rule_line : ℕ → List ℕ
-rule_line i = codes "fof(r" ++ decimal i ++ codes ",axiom,![X]:(p" ++ decimal i ++ codes "(X)=>p" ++ decimal (i + 1) ++ codes "(X)))."
+rule_line i =
+    codes "fof(r" ++ decimal i ++ codes ",axiom,![X]:(p" ++ decimal i ++ codes "(X)=>p" ++ decimal (i + 1)
+    ++ codes "(X)))."
 
 abbrev pub rule_lines : ℕ → List (List ℕ)
 rule_lines zero = []

@@ -36,8 +36,8 @@ fn put_last(out: &mut Vec<u8>, n: u32) -> Result<(), AllocError>
     Ok(())
 }
 
-/// The text of problem `n`, from 1 to 100, as a TPTP problem: a constant has the first of n + 1 properties, what has one
-/// of them has the next, and so the constant has the last one. Its tableau of depth 1 has a branch with n splits.
+/// The text of problem `n`, from 1 to 100, in TPTP's FOF: a constant has the first of n + 1 properties, what has one of
+/// them has the next, and so the constant has the last one. Its tableau of depth 1 has a branch with n splits.
 pub fn make_problem(alloc: Global, n: u32) -> Result<Vec<u8>, AllocError>
     requires first { 1 ≤ n }
     requires last { n ≤ 100 }
