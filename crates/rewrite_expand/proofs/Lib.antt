@@ -1,0 +1,2 @@
+pub mod InPreorder
+pub mod Sound
