@@ -8,7 +8,6 @@ use Rattle.nego_node.specs.declared.tasks.Side.{Side}
 use Rattle.nego_node.specs.declared.tasks.Side.TheVariants.{Left, Right}
 use Rattle.nego_node.specs.declared.answers.Answer.{Answer}
 use Rattle.nego_node.specs.declared.answers.Answer.TheVariants.{Proposal, Exhausted}
-use Rattle.nego_node.specs.declared.events.Event.{Event}
 use Rattle.nego_node.specs.declared.moves.Move.{Move}
 use Rattle.nego_node.specs.declared.moves.Move.TheVariants.{Wait, Try, Split, Ask, Adopt, Agree, Forbid, Refuse, Exhaust}
 use Rattle.nego_node.specs.Board.{BoardNode}
@@ -16,10 +15,10 @@ use Rattle.nego_node.proofs.Sides.{none-some, sound-for}
 use Rattle.nego_node.proofs.StateTests.{is-some}
 use Rattle.nego_plain.specs.PlainOrder.{asked_side}
 use Rattle.nego_plain.specs.Width.{Sites, leaf, fork, IsSites}
-use Rattle.nego_plain.specs.Family.{Family, alone, with_parts, top, Steps}
-use Rattle.nego_plain.specs.Family as family
+use Rattle.nego_plain.specs.Family.{Family, alone, with_parts, top}
+use Rattle.nego_plain.specs.Rest.{IsBounded}
 use Rattle.nego_plain.specs.Fits.{IsNodeAt, IsFamily}
-use Rattle.nego_plain.specs.Engine.{IsInPlain, IsSeeking, AwaitsPart, PartSteps, takes, posts, works}
+use Rattle.nego_plain.specs.Engine.{IsInPlain, IsSeeking, AwaitsPart}
 use Rattle.nego_plain.proofs.Tests.{no-bool, false-if}
 
 not-first : (b : Bool) (x y : Move) → (if b then x else y) ≡ Wait → x ≢ Wait → (b ≡ false) × (y ≡ Wait)
@@ -131,8 +130,8 @@ module _ {O : Type 0} (tree : O → Tree O) (t : Tree O) (round : ℕ) where
   named-at b (fork own x y) (alone n) fam = fam.0
   named-at b (fork own x y) (with_parts n l r) fam = fam.0
 
-  waiting : (b : ℕ) (sh : Sites) (f : Family O) → IsSites t b sh → IsFamily tree t round b sh f → IsSeeking (top f).state → next_move t false (top f).state ≡ Wait → Waiting tree t f
-  waiting b (leaf own) (alone n) sites fam seeking e =
+  waiting : (b : ℕ) (sh : Sites) (f : Family O) → IsSites t b sh → IsFamily tree t round b sh f → IsBounded t sh f → IsSeeking (top f).state → next_move t false (top f).state ≡ Wait → Waiting tree t f
+  waiting b (leaf own) (alone n) sites fam bounded seeking e =
       let have = is-some n.state.held seeking.0 in
       absurd (leaf-waits (next_move t false n.state) refl e)
     where
@@ -143,15 +142,15 @@ module _ {O : Type 0} (tree : O → Tree O) (t : Tree O) (round : ℕ) where
           let b = not-first (nat_lt s.next (t.items s.name)) Try _ a try-wait in
           let c = not-first (not (t.parted s.name)) Exhaust _ b.1 exhaust-wait in
           no-bool (not-false-true (t.parted s.name) c.0) (ap t.parted fam.named ∙ sites.1)
-  waiting b (leaf own) (with_parts n l r) sites fam seeking e = absurd fam
-  waiting b (fork own x y) (alone n) sites fam seeking e =
+  waiting b (leaf own) (with_parts n l r) sites fam bounded seeking e = absurd fam
+  waiting b (fork own x y) (alone n) sites fam bounded seeking e =
       let s : State O = n.state in
       let a : _ = after-false (not (seeks s)) Wait _ (rw ((is-some n.state.held seeking.0).1, seeking.1) refl) e in
       let b = not-first (nat_lt s.next (t.items s.name)) Try _ a try-wait in
       let c = not-first (not (t.parted s.name)) Exhaust _ b.1 exhaust-wait in
       let d = not-first (not s.has_split) Split _ c.1 split-wait in
       absurd (no-bool (not-false-true s.has_split d.0) fam.1)
-  waiting b (fork own x y) (with_parts n l r) sites fam seeking e =
+  waiting b (fork own x y) (with_parts n l r) sites fam bounded seeking e =
       let s : State O = n.state in
       let have = is-some s.held seeking.0 in
       let sound : IsSound tree t s have.0 = sound-for tree t s have.0 fam.0.keeps have.1 in
@@ -173,7 +172,7 @@ module _ {O : Type 0} (tree : O → Tree O) (t : Tree O) (round : ℕ) where
               of_round = ok.of_round ∙ (fam.0.of_round ∙ sym left.of_round);
               same_round = left.of_round ∙ sym fam.0.of_round;
               belongs = ok.belongs;
-              plain = record { round = round; site = left_of b; sites = x; are_sites = sites.2; family = fam.2 };
+              plain = record { round = round; site = left_of b; sites = x; are_sites = sites.2; family = fam.2; bounded = bounded.2 };
             }
             )
         | inr w ↦
@@ -189,27 +188,10 @@ module _ {O : Type 0} (tree : O → Tree O) (t : Tree O) (round : ℕ) where
               of_round = ok.of_round ∙ (fam.0.of_round ∙ sym right.of_round);
               same_round = right.of_round ∙ sym fam.0.of_round;
               belongs = ok.belongs;
-              plain = record { round = round; site = right_of b; sites = y; are_sites = sites.3; family = fam.3 };
+              plain = record { round = round; site = right_of b; sites = y; are_sites = sites.3; family = fam.3; bounded = bounded.3 };
             }
             )
       ]
 
-  -- a step at a part is one of the whole family
-  pub from-left : (n n' : BoardNode O) (l l' r : Family O) (e : Event O) → PartSteps tree t round Left n l e n' l' → Steps tree t round (with_parts n l r) e (with_parts n' l' r)
-  from-left n n' l l' r e step = go step
-    where
-      go : {n n' : BoardNode O} {l l' : Family O} {e : Event O} → PartSteps tree t round Left n l e n' l' → Steps tree t round (with_parts n l r) e (with_parts n' l' r)
-      go (takes n c k waits differs may) = family.takes_left n c r k waits differs may
-      go (posts n c k a waits held said may) = family.posts_left n c r k a waits held said may
-      go (works n c c' k e waits held quiet step) = family.below_left n c r c' k e waits held quiet step
-
-  pub from-right : (n n' : BoardNode O) (l r r' : Family O) (e : Event O) → PartSteps tree t round Right n r e n' r' → Steps tree t round (with_parts n l r) e (with_parts n' l r')
-  from-right n n' l r r' e step = go step
-    where
-      go : {n n' : BoardNode O} {r r' : Family O} {e : Event O} → PartSteps tree t round Right n r e n' r' → Steps tree t round (with_parts n l r) e (with_parts n' l r')
-      go (takes n c k waits differs may) = family.takes_right n l c k waits differs may
-      go (posts n c k a waits held said may) = family.posts_right n l c k a waits held said may
-      go (works n c c' k e waits held quiet step) = family.below_right n l c c' k e waits held quiet step
-
 pub family-waits : {O : Type 0} (tree : O → Tree O) (t : Tree O) (f : Family O) → IsInPlain tree t f → IsSeeking (top f).state → next_move t false (top f).state ≡ Wait → Waiting tree t f
-family-waits tree t f plain seeking e = waiting tree t plain.round plain.site plain.sites f plain.are_sites plain.family seeking e
+family-waits tree t f plain seeking e = waiting tree t plain.round plain.site plain.sites f plain.are_sites plain.family plain.bounded seeking e

@@ -12,8 +12,9 @@ mod Boards
 mod Joining
 mod Picking
 mod Happening
-mod PartStep
 mod Running
+mod Working
+mod PartStep
 mod Playing
 mod Attempts
 mod Left

@@ -1,4 +1,4 @@
-use Rattle.std.proofs.Common.{◌≡◌, ◌∙◌, ℕ, ◌+◌, ◌-◌, ◌*◌, ◌^◌, ◌<◌, ◌≤◌, min, Bool, true, false, ◌⊎◌, inl, inr, Option, Some, None, nat_le, [], sym, ap, refl, subst, arith, if◌then◌else◌, zero-mul}
+use Rattle.std.proofs.Common.{◌≡◌, ◌∙◌, ℕ, ◌+◌, ◌-◌, ◌*◌, ◌^◌, ◌≤◌, min, Bool, true, false, ◌⊎◌, inl, inr, Option, Some, None, nat_le, [], sym, ap, refl, subst, arith, if◌then◌else◌, zero-mul}
 use Rattle.std.proofs.Common.{leb-false, zero, suc}
 use Rattle.std.proofs.lemmas.List.Sorted.{IsPermutation-refl}
 use Rattle.std.proofs.lemmas.List.Sums.{sum_by-cons}
@@ -18,7 +18,7 @@ use Rattle.nego_plain.specs.Family.{Family, alone, with_parts, top, Steps}
 use Rattle.nego_plain.specs.Rest.{whole, cost, effort, IsBounded}
 use Rattle.nego_plain.specs.Fits.{IsNodeAt, IsFamily}
 use Rattle.nego_plain.specs.BoardOf.{count, count_closed, is_closed, IsBoardOf}
-use Rattle.nego_plain.specs.Engine.{DidStep, IsInPlain, has_reached, is_spent, counted}
+use Rattle.nego_plain.specs.Engine.{DidStep, IsInPlain, has_reached, is_spent, count_after}
 use Rattle.nego_plain.specs.Settling.{Counts, IsUnderWay}
 use Rattle.nego_plain.specs.declared.tries.Tries.{Tries}
 use Rattle.nego_plain.proofs.Tests.{false-if}
@@ -75,16 +75,16 @@ attempts-only (event.Refused side g) = (refl, inl refl)
 attempts-only event.Exhausted = (refl, inl refl)
 
 -- one more attempt, or none
-pub counts-more : (before mid after : Tries) (n more : ℕ) → Counts before mid n → after.limit ≡ mid.limit → after.made ≡ counted mid.made more → (more ≡ 1 → is_spent mid ≡ false) → (more ≡ 0) ⊎ (more ≡ 1) → Counts before after (n + more)
+pub counts-more : (before mid after : Tries) (n more : ℕ) → Counts before mid n → after.limit ≡ mid.limit → after.made ≡ count_after mid.made more → (more ≡ 1 → is_spent mid ≡ false) → (more ≡ 0) ⊎ (more ≡ 1) → Counts before after (n + more)
 counts-more before mid after n more c same made allowed (inl none) =
-    let is : after.made ≡ mid.made = made ∙ ap (λ (k : ℕ). counted mid.made k) none in
+    let is : after.made ≡ mid.made = made ∙ ap (λ (k : ℕ). count_after mid.made k) none in
     record {
       limit = same ∙ c.limit;
       made = λ fits. is ∙ (c.made fits ∙ ap (λ (k : ℕ). min (before.made + k) (2 ^ 64 - 1)) (omega (arith, none)));
       within = λ l e. elim (c.within l e) [ inl z ↦ inl (omega (arith, z, none)) | inr w ↦ inr (omega (arith, w, is)) ];
     }
 counts-more before mid after n more c same made allowed (inr one) =
-    let is : after.made ≡ min (mid.made + 1) (2 ^ 64 - 1) = made ∙ ap (λ (k : ℕ). counted mid.made k) one in
+    let is : after.made ≡ min (mid.made + 1) (2 ^ 64 - 1) = made ∙ ap (λ (k : ℕ). count_after mid.made k) one in
     record {
       limit = same ∙ c.limit;
       made = λ fits. omega (arith, is, c.made fits, one);
@@ -110,7 +110,7 @@ module _ {O : Type 0} (tree : O → Tree O) (t : Tree O) (laws : Laws t (λ s. t
       subst (λ (c : ℕ). node_named u.board c ≡ Some (top f)) named (find u.board f u.is_board (top f) (has-top f))
 
   pub in-plain : (before after : Tries) (f : Family O) → IsUnderWay tree t round before after f → IsInPlain tree t f
-  in-plain before after f u = record { round = round; site = 1; sites = sites_at t 1; are_sites = all-sites tree t laws 1; family = u.family }
+  in-plain before after f u = record { round = round; site = 1; sites = sites_at t 1; are_sites = all-sites tree t laws 1; family = u.family; bounded = u.bounded }
 
   pub goes-on : (before mid after : Tries) (f f' : Family O) → IsUnderWay tree t round before mid f → (top f).state.answer ≡ None → DidStep tree t (top f).state.round f f' mid after → IsUnderWay tree t round before after f'
   goes-on before mid after f f' u none did =
@@ -133,14 +133,6 @@ module _ {O : Type 0} (tree : O → Tree O) (t : Tree O) (laws : Laws t (λ s. t
         held = fell.held ∙ u.held;
         bound = omega (arith, u.bound, fell.effort, kind.0);
       }
-
-  -- each event leaves less to be done
-  pub smaller : (before mid after : Tries) (f f' : Family O) → IsUnderWay tree t round before mid f → DidStep tree t (top f).state.round f f' mid after → effort 1 t (sites_at t 1) f' < effort 1 t (sites_at t 1) f
-  smaller before mid after f f' u did =
-      let sh : Sites = sites_at t 1 in
-      let node = top-node 1 sh f u.family in
-      let fell : Falls 1 tree t round 1 sh f did.event f' = falls 1 tree t laws round 1 sh (all-sites tree t laws 1) u.family u.bounded (subst (λ (c : ℕ). Steps tree t c f did.event f') node.of_round did.steps) in
-      omega (arith, fell.effort, one-each did.event)
 
   -- the board of the root alone
   first-is-board : IsBoardOf (first_board {O = O} round) (alone (opened round 1))

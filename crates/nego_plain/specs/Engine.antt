@@ -1,5 +1,6 @@
 use Rattle.std.specs.Prelude.{
   ℕ,
+  suc,
   Bool,
   true,
   false,
@@ -8,6 +9,7 @@ use Rattle.std.specs.Prelude.{
   ◌+◌,
   ◌-◌,
   ◌^◌,
+  ◌≤◌,
   min,
   Option,
   Some,
@@ -20,29 +22,29 @@ use Rattle.std.specs.Prelude.{
 use Rattle.nego_laws.specs.Tree.{Tree}
 use Rattle.nego_node.specs.Machine.{Slot, State, half}
 use Rattle.nego_node.specs.Moves.{next_move, IsOf}
-use Rattle.nego_node.specs.Lawful.{MayReceive, MayPost, Lawful}
+use Rattle.nego_node.specs.Lawful.{Lawful}
 use Rattle.nego_node.specs.Sound.{Belongs}
 use Rattle.nego_node.specs.Board.{BoardNode, with_event}
 use Rattle.nego_node.specs.declared.tasks.Side.{Side}
 use Rattle.nego_node.specs.declared.tasks.Side.TheVariants.{Left, Right}
-use Rattle.nego_node.specs.declared.answers.Answer.{Answer}
 use Rattle.nego_node.specs.declared.events.Event.{Event}
-use Rattle.nego_node.specs.declared.events.Event.TheVariants as event
 use Rattle.nego_node.specs.declared.moves.Move.{Move}
 use Rattle.nego_node.specs.declared.moves.Move.TheVariants.{Try, Wait, Split}
 use Rattle.nego_plain.specs.Width.{Sites, IsSites}
 use Rattle.nego_plain.specs.PlainOrder.{WaitsFor, tried_in}
-use Rattle.nego_plain.specs.Family.{Family, with_parts, top, with_top, Steps}
+use Rattle.nego_plain.specs.Family.{Family, with_parts, top, Steps}
 use Rattle.nego_plain.specs.Fits.{IsLinked, IsFamily}
+use Rattle.nego_plain.specs.Rest.{IsBounded}
 use Rattle.nego_plain.specs.declared.tries.Tries.{Tries}
 
--- a family of the plain order over some sites
+-- a family of the plain order over some sites, with no more left than fresh tasks give it
 pub record IsInPlain {O : Type 0} (tree : O → Tree O) (t : Tree O) (f : Family O) : Type 0 where
   pub round : ℕ
   pub site : ℕ
   pub sites : Sites
   pub are_sites : IsSites t site sites
   pub family : IsFamily tree t round site sites f
+  pub bounded : IsBounded t sites f
 
 -- the node holds a task without an answer
 abbrev pub IsSeeking : {O : Type 0} → State O → Type 0
@@ -57,8 +59,8 @@ abbrev pub is_spent : Tries → Bool
 is_spent tries = has_reached tries.limit tries.made
 
 -- with so many more, up to the last value
-abbrev pub counted : ℕ → ℕ → ℕ
-counted made more = if nat_eq more 0 then made else min (made + more) (2 ^ 64 - 1)
+abbrev pub count_after : ℕ → ℕ → ℕ
+count_after made more = if nat_eq more 0 then made else min (made + more) (2 ^ 64 - 1)
 
 -- The next pick of the plain order in the family is Try.
 pub data NextIsTry {O : Type 0} (t : Tree O) : Family O → Type 0 where
@@ -74,7 +76,7 @@ pub record DidStep {O : Type 0} (tree : O → Tree O) (t : Tree O) (round : ℕ)
   pub event : Event O
   pub steps : Steps tree t round f event f'
   pub same_limit : tries'.limit ≡ tries.limit
-  pub made : tries'.made ≡ counted tries.made (tried_in event)
+  pub made : tries'.made ≡ count_after tries.made (tried_in event)
   pub allowed : tried_in event ≡ 1 → is_spent tries ≡ false
 
 -- nothing was done, since the next pick is Try and the limit is reached
@@ -84,20 +86,35 @@ pub record IsLimited {O : Type 0} (t : Tree O) (f f' : Family O) (tries tries' :
   pub same_tries : tries' ≡ tries
   pub reached : is_spent tries ≡ true
 
--- What is done at a part for which a node waits: it takes its task, the node takes its answer, or something is done at
--- or below it.
-pub data PartSteps {O : Type 0} (tree : O → Tree O) (t : Tree O) (round : ℕ) (side : Side) : BoardNode O → Family O
-    → Event O → BoardNode O → Family O → Type 0 where
-  takes : (n : BoardNode O) (c : Family O) (k : Slot O) → WaitsFor t n.state side k → (top c).state.held ≢ Some k.task
-      → MayReceive (top c).state k.task
-      → PartSteps tree t round side n c (event.Received k.task) n
-      (with_top c (with_event t (event.Received k.task) (top c)))
-  posts : (n : BoardNode O) (c : Family O) (k : Slot O) (a : Answer O) → WaitsFor t n.state side k
-      → (top c).state.held ≡ Some k.task → (top c).state.answer ≡ Some a → MayPost n.state side a
-      → PartSteps tree t round side n c (event.Posted side a) (with_event t (event.Posted side a) n) c
-  works : (n : BoardNode O) (c c' : Family O) (k : Slot O) (e : Event O) → WaitsFor t n.state side k
-      → (top c).state.held ≡ Some k.task → (top c).state.answer ≡ None → Steps tree t round c e c'
-      → PartSteps tree t round side n c e n c'
+-- So many events of the plain order were done in the family, one after the other while its top had no answer.
+pub data Plays {O : Type 0} (tree : O → Tree O) (t : Tree O) (round : ℕ) (f : Family O) (tries : Tries) : ℕ → Family O
+    → Tries → Type 0 where
+  stays : Plays tree t round f tries 0 f tries
+  goes : {n : ℕ} {f' : Family O} {tries' : Tries} (g : Family O) (mid : Tries) → Plays tree t round f tries n g mid
+      → (top g).state.answer ≡ None → DidStep tree t round g f' mid tries'
+      → Plays tree t round f tries (suc n) f' tries'
+
+-- the top has no answer, the next pick is Try, and the limit is reached
+pub record IsStopped {O : Type 0} (t : Tree O) (f : Family O) (tries : Tries) : Type 0 where
+  pub unanswered : (top f).state.answer ≡ None
+  pub next : NextIsTry t f
+  pub reached : is_spent tries ≡ true
+
+-- At least one event was done, or it stopped at an attempt before which the limit is reached.
+pub record DidPlay {O : Type 0} (tree : O → Tree O) (t : Tree O) (round : ℕ) (moved : Bool) (f f' : Family O)
+    (tries tries' : Tries) : Type 0 where
+  pub events : ℕ
+  pub plays : Plays tree t round f tries events f' tries'
+  pub some : moved ≡ true → 1 ≤ events
+  pub stopped : moved ≡ false → IsStopped t f' tries'
+
+-- The plain order was followed until the top has an answer, or to an attempt before which the limit is reached.
+pub record DidWork {O : Type 0} (tree : O → Tree O) (t : Tree O) (round : ℕ) (ended : Bool) (f f' : Family O)
+    (tries tries' : Tries) : Type 0 where
+  pub events : ℕ
+  pub plays : Plays tree t round f tries events f' tries'
+  pub answered : ended ≡ true → IsSome (top f').state.answer
+  pub stopped : ended ≡ false → IsStopped t f' tries'
 
 -- a node waits for the part
 pub record AwaitsPart {O : Type 0} (tree : O → Tree O) (t : Tree O) (s : State O) (side : Side)
@@ -112,26 +129,16 @@ pub record AwaitsPart {O : Type 0} (tree : O → Tree O) (t : Tree O) (s : State
   pub belongs : Belongs tree t slot.task
   pub plain : IsInPlain tree t c
 
--- the same of a part
-pub record DidPartStep {O : Type 0} (tree : O → Tree O) (t : Tree O) (round : ℕ) (side : Side) (n n' : BoardNode O)
-    (c c' : Family O) (tries tries' : Tries) : Type 0 where
-  pub event : Event O
-  pub steps : PartSteps tree t round side n c event n' c'
-  pub same_limit : tries'.limit ≡ tries.limit
-  pub made : tries'.made ≡ counted tries.made (tried_in event)
-  pub allowed : tried_in event ≡ 1 → is_spent tries ≡ false
+-- a node, its part of one side and the other part
+abbrev pub join : {O : Type 0} → Side → BoardNode O → Family O → Family O → Family O
+join Left n c other = with_parts n c other
+join Right n c other = with_parts n other c
 
-pub record IsPartLimited {O : Type 0} (t : Tree O) (side : Side) (n n' : BoardNode O) (c c' : Family O)
-    (tries tries' : Tries) : Type 0 where
-  pub slot : Slot O
-  pub waits : WaitsFor t n.state side slot
-  pub held : (top c).state.held ≡ Some slot.task
-  pub unanswered : (top c).state.answer ≡ None
-  pub next : NextIsTry t c
-  pub same_node : n' ≡ n
-  pub same : c' ≡ c
-  pub same_tries : tries' ≡ tries
-  pub reached : is_spent tries ≡ true
+-- the same as seen from a part, whatever the other part is
+abbrev pub DidPartPlay : {O : Type 0} → (O → Tree O) → Tree O → ℕ → Side → Bool → BoardNode O → BoardNode O → Family O
+    → Family O → Tries → Tries → Type 0
+DidPartPlay {O} tree t round side moved n n' c c' tries tries' =
+    (other : Family O) → DidPlay tree t round moved (join side n c other) (join side n' c' other) tries tries'
 
 -- a node made a move of its own, which is counted where it is an attempt
 pub record DidMove {O : Type 0} (tree : O → Tree O) (t : Tree O) (n n' : BoardNode O)
@@ -145,7 +152,7 @@ pub record DidMove {O : Type 0} (tree : O → Tree O) (t : Tree O) (n n' : Board
   pub lawful : Lawful tree t n.state event
   pub node : n' ≡ with_event t event n
   pub same_limit : tries'.limit ≡ tries.limit
-  pub made : tries'.made ≡ counted tries.made (tried_in event)
+  pub made : tries'.made ≡ count_after tries.made (tried_in event)
   pub allowed : tried_in event ≡ 1 → is_spent tries ≡ false
 
 -- nothing was done at a node, since its next move is Try and the limit is reached

@@ -8,17 +8,7 @@ ghost use Rattle.nego_node.specs.declared.moves.Move.TheVariants as moves;
 ghost use Rattle.nego_node.specs.Board.{opened as opened_node, with_event};
 ghost use Rattle.nego_plain.specs.Family.{top, alone, Steps};
 ghost use Rattle.nego_plain.specs.Views.{board_node, family_of, IsAround};
-ghost use Rattle.nego_plain.specs.Engine.{
-  IsInPlain,
-  IsSeeking,
-  DidStep,
-  IsLimited,
-  AwaitsPart,
-  DidPartStep,
-  IsPartLimited,
-  DidMove,
-  IsMoveLimited,
-};
+ghost use Rattle.nego_plain.specs.Engine.{DidMove, IsMoveLimited};
 ghost use Rattle.nego_node.specs.declared.events.Event.TheVariants as events;
 
 use crate::messages::{give, hand};

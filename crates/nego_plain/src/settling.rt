@@ -11,7 +11,7 @@ ghost use Rattle.nego_plain.specs.Settling.{IsUnderWay, IsSettled, Says, AreSort
 
 use crate::family::{Below, Family, opened};
 use crate::messages::hand;
-use crate::stepping::step;
+use crate::stepping::work;
 use crate::tries::Tries;
 use containers::{Items, Shared};
 use nego_laws::field::{Field, Offer};
@@ -79,13 +79,8 @@ fn play<F: Field>(
     // For the proof alone: that the field is read says that the count is one of 64 bits.
     let _made = tries.made;
     let mut family = root(alloc, field, round)?;
-    'picks: while family.node.answer().is_none() {
-        let moved = step(alloc, field, &mut family, tries)?;
-        if !moved {
-            return Ok((family, true));
-        }
-    }
-    Ok((family, false))
+    let answered = work(alloc, field, &mut family, tries)?;
+    Ok((family, !answered))
 }
 
 /// The nodes of a family, at the end of a list.

@@ -1,7 +1,7 @@
 //! The limit on attempts.
 
 ghost use Rattle.std.specs.Prelude.{◌≡◌};
-ghost use Rattle.nego_plain.specs.Engine.{is_spent, counted};
+ghost use Rattle.nego_plain.specs.Engine.{is_spent, count_after};
 
 /// How many attempts may be made, and how many were made.
 #[derive(Clone, Copy)]
@@ -26,7 +26,7 @@ impl Tries {
     /// Counts an attempt.
     pub(crate) fn count(&mut self)
         ensures limit { self.new.limit ≡ self.old.limit }
-        ensures made { self.new.made ≡ counted self.old.made 1 }
+        ensures made { self.new.made ≡ count_after self.old.made 1 }
     {
         self.made = self.made.saturating_add(1);
     }
