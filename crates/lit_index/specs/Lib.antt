@@ -1,0 +1,4 @@
+pub mod Occurrences
+pub mod Chain
+pub mod Links
+pub mod Apart
