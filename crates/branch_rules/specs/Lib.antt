@@ -1,0 +1,11 @@
+pub mod Branch
+pub mod Next
+pub mod Kinds
+pub mod BranchValue
+pub mod BranchView
+pub mod Steps
+pub mod Plans
+pub mod ListsGrown
+pub mod Taken
+pub mod Halves
+pub mod Outcomes
