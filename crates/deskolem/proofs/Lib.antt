@@ -1,0 +1,14 @@
+pub mod Numbered
+pub mod Valued
+pub mod Spelled
+pub mod Spanned
+pub mod Texts
+pub mod Fills
+pub mod Openings
+pub mod Lined
+pub mod Runs
+pub mod Steps
+pub mod Turns
+pub mod Walks
+pub mod Written
+pub mod Answered

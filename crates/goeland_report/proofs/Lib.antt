@@ -1,0 +1,3 @@
+mod Rows
+pub mod Pieces
+pub mod Commented

@@ -1,0 +1,4 @@
+mod Rows
+pub mod Listed
+pub mod Comments
+pub mod OfferLines

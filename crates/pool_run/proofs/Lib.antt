@@ -1,0 +1,4 @@
+mod Fairs
+mod Gathered
+mod Lists
+mod Settled

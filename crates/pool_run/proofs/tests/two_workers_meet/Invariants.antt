@@ -1,0 +1,5 @@
+use Rattle.std.proofs.Common.{Some}
+use Rattle.pool_run.proofs.tests.two_workers_meet.Given as goal
+
+abbrev pub ghosts-settled : goal.ghosts-settled
+ghosts-settled g a = record { sets = Some a.field.now.tree }

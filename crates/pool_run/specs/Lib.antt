@@ -1,0 +1,4 @@
+pub mod Entries
+pub mod Fair
+pub mod Values
+pub mod Ends

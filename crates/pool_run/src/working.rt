@@ -1,0 +1,211 @@
+//! What a worker does: it visits nodes until the stop flag is set.
+
+ghost use Rattle.std.specs.Prelude.{◌≡◌, ◌<◌, Some, IfSome};
+ghost use denote.Param.Send.{IsSend};
+ghost use Rattle.nego_node.specs.Lawful.{task_of};
+ghost use Rattle.nego_node.specs.Sound.{Belongs};
+ghost use Rattle.nego_lock.specs.Visits.{MessageBelongs, OutgoingBelongs, IfDid};
+
+use crate::desk::Desk;
+use crate::entry::Entry;
+use crate::gate::Gate;
+use nego_laws::field::{Field, Offer};
+use nego_lock::directory::Directory;
+use nego_lock::locked::{Key, LockedNode, StopFlag};
+use nego_lock::visit::{Message, Outgoing, Visit, VisitError};
+use nego_node::answers::Answer;
+use nego_node::misfits::Misfit;
+use nego_node::node::NodeState;
+use nego_node::tasks::Side;
+use std::alloc::{AllocError, Global};
+use std::sync::ledger::Ledger;
+use std::sync::{Mutex, Wait};
+use std::thread;
+use std::thread::Threads;
+use step_book::{Book, Share};
+
+/// The name of the root.
+pub(crate) const ROOT: u128 = 1;
+
+/// What the workers share. The root stands here, and every other node in the directory.
+#[derive(Drop)]
+pub(crate) struct Table<'a, F: Field, K: Key<F>, G: Gate, N: Ledger, M: Ledger, R: Wait> {
+    pub(crate) rt: &'a R,
+    pub(crate) alloc: Global,
+    pub(crate) round: u32,
+    pub(crate) field: &'a F,
+    pub(crate) gate: &'a G,
+    pub(crate) root: &'a LockedNode<F, K>,
+    pub(crate) directory: &'a Directory<F, K>,
+    pub(crate) stop: &'a StopFlag,
+    pub(crate) book: &'a Book<N, M>,
+    pub(crate) desks: &'a [Mutex<Desk<F, K>>],
+}
+
+/// Whether the workers go on.
+#[derive(Clone, Copy, PartialEq, Eq)]
+enum Flow {
+    GoesOn,
+    Stops,
+}
+
+/// Opens a part that has received nothing.
+fn open_part<F: Field, K: Key<F>, G: Gate, N: Ledger, M: Ledger, R: Wait>(
+    field: &F,
+    table: &Table<'_, F, K, G, N, M, R>,
+    site: F::Site,
+) -> Result<(), AllocError>
+    requires key { K.tree ≡ Some (F.tree field.now) }
+    requires site { F.around site ≡ F.tree field.now }
+{
+    let name = field.name(&site);
+    let state = NodeState::begin(table.alloc, site, name, table.round);
+    table.directory.open(table.rt, name, LockedNode::new(state))
+}
+
+/// Visits a node. One that the directory does not find sets the stop flag.
+fn visit_node<F: Field, K: Key<F>, G: Gate, N: Ledger, M: Ledger, R: Wait>(
+    field: &F,
+    table: &Table<'_, F, K, G, N, M, R>,
+    share: &mut Share<N>,
+    node: u128,
+    message: Option<Message<F>>,
+) -> Result<Visit<F>, VisitError>
+    requires key { K.tree ≡ Some (F.tree field.now) }
+    requires message { IfSome message (MessageBelongs F.Offer.tree (F.tree field.now)) }
+    ensures { IfDid result (OutgoingBelongs F.Offer.tree F.around (F.tree field.now)) }
+{
+    if node == ROOT {
+        return table
+            .root
+            .visit(table.rt, field, message, table.stop, table.book, share);
+    }
+    let Some(found) = table.directory.find(table.rt, node)? else {
+        table.stop.set();
+        return Err(VisitError::Stopped);
+    };
+    found.visit(table.rt, field, message, table.stop, table.book, share)
+}
+
+/// The answer of a node, for its parent.
+fn answer_entry<F: Field, K: Key<F>>(field: &F, node: u128, answer: Answer<F::Offer>) -> Entry<F, K>
+    requires key { K.tree ≡ Some (F.tree field.now) }
+    requires belongs { Belongs F.Offer.tree (F.tree field.now) (task_of answer) }
+{
+    let side = if node % 2 == 0 {
+        Side::Left
+    } else {
+        Side::Right
+    };
+    Entry::bringing(field, node / 2, Message::Answer(side, answer))
+}
+
+/// Queues what a visit of a node hands on, and the node again while it may go on by itself. Both parts stand in the
+/// directory before anything is queued for them. The workers stop once the root has an answer.
+fn hand_on<F: Field, K: Key<F>, G: Gate, N: Ledger, M: Ledger, R: Wait>(
+    field: &F,
+    table: &Table<'_, F, K, G, N, M, R>,
+    desk: &mut Desk<F, K>,
+    node: u128,
+    out: Outgoing<F>,
+) -> Result<Flow, AllocError>
+    requires key { K.tree ≡ Some (F.tree field.now) }
+    requires belongs { OutgoingBelongs F.Offer.tree F.around (F.tree field.now) out }
+{
+    match out {
+        Outgoing::Nothing => desk.put(Entry::bare(node))?,
+        Outgoing::Task(task) => {
+            let part = task.get().node;
+            desk.put(Entry::bringing(field, part, Message::Task(task)))?;
+            desk.put(Entry::bare(node))?;
+        }
+        Outgoing::Sites(left, right) => {
+            open_part(field, table, left)?;
+            open_part(field, table, right)?;
+            desk.put(Entry::bare(node))?;
+        }
+        Outgoing::Answer(answer) => {
+            if node == ROOT {
+                return Ok(Flow::Stops);
+            }
+            desk.put(answer_entry(field, node, answer))?;
+        }
+    }
+    Ok(Flow::GoesOn)
+}
+
+/// Does what an entry asks. A stale message is dropped. Any other that does not fit stops the workers, and so does a
+/// node that is to try an item where no try is left.
+fn serve<F: Field, K: Key<F>, G: Gate, N: Ledger, M: Ledger, R: Wait>(
+    field: &F,
+    table: &Table<'_, F, K, G, N, M, R>,
+    desk: &mut Desk<F, K>,
+    share: &mut Share<N>,
+    entry: Entry<F, K>,
+) -> Result<Flow, VisitError>
+    requires { K.tree ≡ Some (F.tree field.now) }
+{
+    let (node, message) = entry.into_parts(field);
+    table.gate.before(node);
+    let visit = visit_node(field, table, share, node, message)?;
+    match visit {
+        Visit::Did(out) => {
+            let flow = hand_on(field, table, desk, node, out)?;
+            Ok(flow)
+        }
+        Visit::Waits | Visit::Misfit(Misfit::Stale { .. }) => Ok(Flow::GoesOn),
+        Visit::Spent | Visit::Misfit(_) => Ok(Flow::Stops),
+    }
+}
+
+/// Works at the desk of that number until the stop flag is set. A worker that finds nothing to do looks again.
+fn work<F: Field, K: Key<F>, G: Gate, N: Ledger, M: Ledger, R: Wait>(
+    field: &F,
+    table: &Table<'_, F, K, G, N, M, R>,
+    number: usize,
+    share: &mut Share<N>,
+)
+    requires { K.tree ≡ Some (F.tree field.now) }
+{
+    let Some(mine) = table.desks.get(number) else {
+        table.stop.set();
+        return;
+    };
+    let mut guard = mine.lock(table.rt);
+    let desk = &mut *guard;
+    for _ in table.rt.forever() {
+        if table.stop.is_set() {
+            break;
+        }
+        let Some(entry) = desk.next_entry() else {
+            thread::yield_now();
+            continue;
+        };
+        if !matches!(serve(field, table, desk, share, entry), Ok(Flow::GoesOn)) {
+            table.stop.set();
+        }
+    }
+}
+
+/// Runs the workers, one for each share, each in a thread of its own where one can be made, and joins them. The calling
+/// thread is one.
+pub(crate) fn run_workers<
+    F: Field + Sync,
+    K: Key<F> + Send + Sync,
+    G: Gate,
+    N: Ledger + Send + Sync,
+    M: Ledger + Send + Sync,
+    R: Threads + Wait + Sync,
+>(table: &Table<'_, F, K, G, N, M, R>, shares: &mut [Share<N>], workers: u32)
+    requires some { 0 < workers }
+    requires key { K.tree ≡ Some (F.tree table.now.field.now) }
+{
+    thread::for_each_mut(
+        table.rt,
+        shares,
+        workers as usize,
+        &|number: usize, share: &mut Share<N>|
+            requires { IsSend F.Offer.row × IsSend F.Site.row × (K.tree ≡ Some (F.tree table.now.field.now)) }
+        { work(table.field, table, number, share) },
+    );
+}

@@ -1,0 +1,14 @@
+pub mod Exists
+pub mod Contradictions
+pub mod Solving
+pub mod Entailing
+pub mod Closing
+pub mod Rows
+pub mod Running
+pub mod OwnItems
+pub mod ItemArguments
+pub mod SegmentRuns
+pub mod Names
+pub mod Below
+pub mod Prefix
+pub mod ClosedTreeViews

@@ -1,0 +1,14 @@
+pub mod Tableau
+pub mod Items
+pub mod Segments
+pub mod ClosedTree
+pub mod Round
+pub mod RoundValue
+pub mod SiteValue
+pub mod SiteView
+pub mod ClosingView
+pub mod Runs
+pub mod Literals
+pub mod ItemsAt
+pub mod Arguments
+pub mod RunView

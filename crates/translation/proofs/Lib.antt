@@ -1,0 +1,20 @@
+mod Rows
+pub mod Below
+pub mod Grown
+pub mod Naming
+pub mod Followed
+pub mod Grounding
+pub mod Built
+pub mod Values
+pub mod Standing
+pub mod Shown
+pub mod Opening
+pub mod Lifted
+pub mod Expanded
+pub mod Translates
+pub mod Refuted
+pub mod OneTree
+pub mod Counted
+pub mod FewParameters
+pub mod Sound
+pub mod InTurn
