@@ -1,0 +1,5 @@
+pub mod Agreeing
+pub mod Decided
+pub mod Waiting
+pub mod Found
+mod Rows

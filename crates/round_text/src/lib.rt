@@ -1,0 +1,6 @@
+//! How the offers of a round are written in histories.
+#![tactic(auto)]
+
+mod spelling;
+
+pub use spelling::RoundSpelling;

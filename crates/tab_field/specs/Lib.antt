@@ -1,0 +1,2 @@
+pub mod PlaceValue
+pub mod Join
