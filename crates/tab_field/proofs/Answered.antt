@@ -1,5 +1,5 @@
 -- What was answered, where it is known which of the two it was; and tests that say the same.
-use Rattle.std.proofs.Common.{◌≡◌, Bool, true, false, Option, Some, None, refl, sym, subst, IsTrue}
+use Rattle.std.proofs.Common.{◌≡◌, Bool, true, false, Option, Some, None, refl, subst, IsTrue}
 use Rattle.std.specs.Prelude.{MatchOption, ◌↔◌}
 use Rattle.std.proofs.lemmas.Bool.{false≢true}
 

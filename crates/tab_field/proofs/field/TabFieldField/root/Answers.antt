@@ -1,5 +1,4 @@
 use Rattle.std.proofs.Common.{ap, ◌∙◌, sym, subst}
-use Rattle.tab_tree.specs.SiteValue.{IsRoot}
 use Rattle.round_offers.specs.Sites.{StandsIn}
 use Rattle.round_offers.specs.RoundOffer.{tree_of_round}
 use Rattle.round_offers.proofs.Sites.{root_stands, root_name}
