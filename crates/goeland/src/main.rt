@@ -5,6 +5,7 @@ ghost use Rattle.std.specs.Prelude.{◌≡◌};
 ghost use Rattle.std.specs.Process.{exit_status};
 ghost use Rattle.goeland_run.specs.Run.{exit_of};
 
+use deepening::Kept;
 use gl_outside::{HostShelf, HostSink};
 use goeland_run::{Status, run_alone};
 use std::env;
@@ -41,5 +42,6 @@ fn main(rt: HostRuntime) -> ExitCode {
     };
     let mut shelf = HostShelf::new(&rt);
     let mut out = HostSink::new(&rt);
-    exit_code(run_alone(alloc, words.as_slice(), &mut shelf, &mut out))
+    let mut kept = Kept::new(alloc);
+    exit_code(run_alone(alloc, words.as_slice(), &mut shelf, &mut out, &mut kept))
 }

@@ -1,6 +1,5 @@
-pub mod Spelled
-pub mod Reports
+pub mod Benched
+pub mod CommandLimits
+pub mod Told
 pub mod Answered
 pub mod Puts
-pub mod Words
-pub mod Searching

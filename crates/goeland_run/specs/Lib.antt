@@ -1,2 +1,9 @@
-pub mod Run
+pub mod Outside
+pub mod PrintedText
+pub mod Histories
 pub mod Searched
+pub mod Reports
+pub mod Run
+pub mod Telling
+pub mod Benching
+pub mod Deciding

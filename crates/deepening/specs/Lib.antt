@@ -1,0 +1,5 @@
+pub mod Depths
+pub mod Kept
+pub mod PlainRounds
+pub mod Endings
+pub mod RoundEnds

@@ -1,7 +1,0 @@
-use Rattle.std.proofs.Common.{◌≡◌, ℕ, ◌<◌, ◌≤◌, None}
-use Rattle.prop_tableau.specs.Tableau.{alpha_at}
-use Rattle.prop_tableau.specs.BranchView.{entries_of}
-use Rattle.prop_tableau.proofs.scan.next_alpha.Given as goal
-
-abbrev pub invariant-loop-place : goal.invariant-loop-place
-invariant-loop-place l = (j : ℕ) → l.from ≤ j → j < l.place → alpha_at (entries_of l.branch) j ≡ None
