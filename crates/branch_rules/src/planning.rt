@@ -110,6 +110,7 @@ fn next_split(
     ensures means { MatchOption result (NonePending (branch_in lists.now) depth disjunctive)
         (PlanMeans (branch_in lists.now) depth) }
     ensures front { MatchOption result (Unit {0}) (HasFront (branch_in lists.now) agenda.new turns.now.items) }
+    ensures kept { agenda.new.universal ≡ agenda.old.universal }
 {
     if lists.counts.splits >= 120 {
         return None;
@@ -131,30 +132,27 @@ fn next_split(
     }
 }
 
-/// What comes next of class 4, where nothing of the other classes is pending.
+/// What comes next of class 4, where nothing of the other classes is pending and every universal entry has joined the
+/// queue.
 fn next_universal(
     alloc: Global,
     lists: &Lists,
-    rules: &Rules,
     agenda: &mut Agenda,
-    turns: &mut SegList<Turn>,
+    turns: &SegList<Turn>,
     depth: u32,
 ) -> Result<Plan, AllocError>
     requires reads { Reads (branch_in lists.now) lists.now }
-    requires rules { rules.now ≡ lists.now.rules }
-    requires agenda { IsAgenda (branch_in lists.now) agenda.old (born_in lists.now) turns.old.items }
-    requires growing { turns.old.sealed ≡ false }
+    requires agenda { IsAgenda (branch_in lists.now) agenda.old (born_in lists.now) turns.now.items }
     requires depth { agenda.old.depth ≡ depth }
+    requires joined { agenda.old.universal ≡ length (entries (branch_in lists.now)) }
     requires none { NonePending (branch_in lists.now) depth conjunctive }
     requires neither { NonePending (branch_in lists.now) depth existential }
     requires nor { NonePending (branch_in lists.now) depth disjunctive }
-    ensures agenda { IsAgenda (branch_in lists.now) agenda.new (born_in lists.now) turns.new.items }
+    ensures agenda { IsAgenda (branch_in lists.now) agenda.new (born_in lists.now) turns.now.items }
     ensures depth { agenda.new.depth ≡ depth }
-    ensures growing { turns.new.sealed ≡ false }
     ensures means { IfOk result (λ p. PlanMeans (branch_in lists.now) depth p) }
-    ensures front { IfOk result (λ p. HasFront (branch_in lists.now) agenda.new turns.new.items p) }
+    ensures front { IfOk result (λ p. HasFront (branch_in lists.now) agenda.new turns.now.items p) }
 {
-    join(lists, rules, agenda, turns)?;
     match serve(lists, agenda, turns, depth) {
         None => Ok(Plan::Done),
         Some(turn) => {
@@ -190,8 +188,10 @@ pub(crate) fn next_plan(
     if let Some(plan) = next_existential(alloc, lists, rules, agenda, turns, depth)? {
         return Ok(plan);
     }
+    // Before a split, so that neither side has to look for them again.
+    join(lists, rules, agenda, turns)?;
     if let Some(plan) = next_split(lists, rules, agenda, turns, depth) {
         return Ok(plan);
     }
-    next_universal(alloc, lists, rules, agenda, turns, depth)
+    next_universal(alloc, lists, agenda, turns, depth)
 }
