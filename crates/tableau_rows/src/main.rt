@@ -2,13 +2,16 @@
 //!
 //! The problems stand between empty lines. The first line of each is the depth, with `off` behind it where no literal is
 //! rewritten. A segment is told by its name, the number of entries at its end and where it splits, and then its closing
-//! items, each with what the offer that makes it closed does to the whole tableau.
+//! items, each with what the offer that makes it closed does to the whole tableau. At the end come two lists that go on
+//! from one, as the lists of a branch do at a split.
 #![tactic(auto)]
 
 mod item;
+mod lists;
 mod round;
 mod walk;
 
+use crate::lists::forked;
 use crate::round::round_of;
 use crate::walk::push_tableau;
 use std::alloc::{AllocError, Global};
@@ -43,5 +46,6 @@ fn main(rt: HostRuntime) -> io::Result<()> {
             text.push(b'\n')?;
         }
     }
-    Ok(())
+    let lists = forked(alloc)?;
+    io::writer(&rt).write_all(lists.as_bytes())
 }
