@@ -1,9 +1,9 @@
 //! Prints the tableau of each problem of the input, segment by segment.
 //!
-//! The problems stand between empty lines. The first line of each is the depth, with `off` behind it where no literal is
-//! rewritten. A segment is told by its name, the number of entries at its end and where it splits, and then its closing
-//! items, each with what the offer that makes it closed does to the whole tableau. At the end come two lists that go on
-//! from one, as the lists of a branch do at a split.
+//! The problems stand between empty lines. The first line of each is the depth, with `off` behind it where no literal
+//! is rewritten. A segment is told by its name, the number of entries at its end and where it splits, and then its
+//! closing items, each with what the offer that makes it closed does to the whole tableau. At the end come two lists
+//! that go on from one, as the lists of a branch do at a split.
 #![tactic(auto)]
 
 mod item;

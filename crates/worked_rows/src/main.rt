@@ -1,8 +1,8 @@
 //! Runs each line of its input as a shell would run it, and prints what is written and how the run ends.
 //!
-//! A line is `goeland` or `gs3check` with words, then at most one `< FILE`, which is the standard input, and at most one
-//! `> BYTES`, the room of the standard output. Files lie in the folder; `blanks.N` stands for N blanks. What a run of the
-//! prover proves goes to the checker, whose answer is printed too.
+//! A line is `goeland` or `gs3check` with words, then at most one `< FILE`, which is the standard input, and at most
+//! one `> BYTES`, the room of the standard output. Files lie in the folder; `blanks.N` stands for N blanks. What a run
+//! of the prover proves of the standard input goes to the checker, whose answer is printed too.
 #![tactic(auto)]
 
 mod row;
