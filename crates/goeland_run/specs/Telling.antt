@@ -1,17 +1,15 @@
 -- What is printed of what a search comes to, and the status.
-use Rattle.std.specs.Prelude.{◌≡◌, ℕ, List}
+use Rattle.std.specs.Prelude.{◌≡◌}
 use Rattle.fof_parse.specs.Problem.{PlainProblem}
 use Rattle.round_offers.specs.RoundOffer.{RoundOffer}
 use Rattle.goeland_words.specs.declared.prove.ProveWords.{ProveWords}
 use Rattle.deepening.specs.declared.kept.Kept.{Kept}
-use Rattle.goeland_report.specs.Outcome.{Outcome, Proof, GiveUp, proof, give_up}
-use Rattle.goeland_report.specs.Reported.{IsReport}
-use Rattle.goeland_report.specs.declared.found.Report.{Report}
+use Rattle.goeland_report.specs.Outcome.{Outcome}
 use Rattle.goeland_report.specs.Output.{output}
 use Rattle.goeland_run.specs.PrintedText.{printed_text}
 use Rattle.goeland_run.specs.Histories.{offer_words}
 use Rattle.goeland_run.specs.Run.{status_of}
-use Rattle.goeland_run.specs.Searched.{HasSteps, HasCause, HasProved, HasGivenUp, IsFoundOut}
+use Rattle.goeland_run.specs.Searched.{HasSteps, HasCause, IsFoundOut}
 use Rattle.goeland_run.specs.declared.answers.Answer.{Answer}
 use Rattle.goeland_run.specs.declared.answers.Answer.TheVariants as answer
 use Rattle.goeland_run.specs.declared.printed.Printed.{Printed}
