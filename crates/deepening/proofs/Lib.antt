@@ -1,6 +1,9 @@
+pub mod LastOffers
 pub mod Roots
+pub mod Answering
 pub mod Tried
 pub mod Verdicts
 pub mod ClosedRounds
 pub mod Ends
 pub mod Deeper
+pub mod Decided

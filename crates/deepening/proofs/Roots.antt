@@ -7,7 +7,7 @@ use Rattle.std.proofs.lemmas.Bool.{ne_eqb, eq-eqb, cases_eq}
 use Rattle.nego_laws.specs.Tree.{Tree}
 use Rattle.nego_node.specs.NodeValue.{NodeValue}
 use Rattle.nego_node.specs.Proposed.{Proposed}
-use Rattle.nego_node.specs.Machine.{State, after, received, resumed, fresh, after_trying, proposing, giving_up, proposed_by, goes_on}
+use Rattle.nego_node.specs.Machine.{State, after}
 use Rattle.nego_node.specs.Order.{AreRising}
 use Rattle.nego_node.specs.Board.{BoardNode, node_named, opened, with_event, first_board, said_by, said_at, done, Happens}
 use Rattle.nego_node.specs.declared.tasks.Task.{Task}
@@ -24,40 +24,9 @@ use Rattle.nego_plain.specs.PlainOrder.{PlainRun, stays, goes}
 use Rattle.nego_plain.specs.Settling.{AreInOrder}
 use Rattle.nego_plain.specs.Views.{board_node}
 use Rattle.deepening.specs.Kept.{offer_by, last_offer, root_offer}
+use Rattle.deepening.proofs.LastOffers.{last-is, answered}
 
 module _ {O : Type 0} where
-  last-is : (es : List (Event O)) (e : Event O) → last_offer (es ++ e ∷ []) ≡ offer_by e
-  last-is [] e = refl
-  last-is (d ∷ []) e = refl
-  last-is (d ∷ f ∷ es) e = last-is (f ∷ es) e
-
-  unanswered : (b : Bool) (s : State O) (task : Task O) → (if b then resumed s task else fresh s task).answer ≡ None
-  unanswered true s task = refl
-  unanswered false s task = refl
-
-  by-held : (s : State O) (held : Option (Task O)) (offer : O) (p : Proposed O) → s.answer ≡ None → (proposing s held offer).answer ≡ Some (answer.Proposal p) → Some offer ≡ Some p.offer
-  by-held s None offer p none is = absurd (none-some none is)
-  by-held s (Some task) offer p none is = ap (λ (a : Option (Answer O)). proposed_by a) is
-
-  given-up : (s : State O) (held : Option (Task O)) (p : Proposed O) → s.answer ≡ None → (giving_up s held).answer ≡ Some (answer.Proposal p) → ⊥
-  given-up s None p none is = none-some none is
-  given-up s (Some task) p none is = none-some refl (ap (λ (a : Option (Answer O)). proposed_by a) is)
-
-  -- an event with which a node answers an offer has that offer
-  answered : (t : Tree O) (s : State O) (e : Event O) (p : Proposed O) → s.answer ≡ None → (after t s e).answer ≡ Some (answer.Proposal p) → offer_by e ≡ Some p.offer
-  answered t s (Received task) p none is = absurd (none-some (unanswered (goes_on t s.held s.answer task) s task) is)
-  answered t s (Tried item outcome.None) p none is = absurd (none-some none is)
-  answered t s (Tried item (outcome.Banned offer)) p none is = absurd (none-some none is)
-  answered t s (Tried item (outcome.Offer offer)) p none is = by-held (record s { next = s.next + 1 }) s.held offer p none is
-  answered t s Split p none is = absurd (none-some none is)
-  answered t s (Asked side task) p none is = absurd (none-some none is)
-  answered t s (Posted side a) p none is = absurd (none-some none is)
-  answered t s (Adopted side g offer) p none is = absurd (none-some none is)
-  answered t s (Agreed side g offer) p none is = by-held s s.held offer p none is
-  answered t s (Forbidden side g offer) p none is = absurd (none-some none is)
-  answered t s (Refused side g) p none is = absurd (none-some none is)
-  answered t s Exhausted p none is = absurd (given-up s s.held p none is)
-
   -- what is said of a root
   pub record RootOffers (board : List (BoardNode O)) (offer : O) : Type 0 where
     pub root : BoardNode O
@@ -107,7 +76,7 @@ module _ {S O : Type 0} where
   node-at (n ∷ nodes) (suc k) root less at = node-at nodes k root (omega (arith, less)) at
 
   -- among nodes in the rising order of their names, the one with the name 1 is found
-  found-at : (nodes : List (NodeValue S O)) (k : ℕ) (n : NodeValue S O) → AreRising nodes → slice_get nodes k ≡ Some n
+  pub found-at : (nodes : List (NodeValue S O)) (k : ℕ) (n : NodeValue S O) → AreRising nodes → slice_get nodes k ≡ Some n
       → n.state.name ≡ 1 → root_offer nodes ≡ last_offer n.history
   found-at [] k n rising at named = absurd (none-some refl at)
   found-at (m ∷ nodes) zero n rising at named =

@@ -10,7 +10,7 @@ use Rattle.deepening.specs.declared.kept.Kept.{Kept}
 
 -- there was no round
 abbrev pub IsEmpty : Kept → Type 0
-IsEmpty kept = (kept.depth ≡ 0) × (kept.engine ≡ None) × (kept.nodes ≡ [])
+IsEmpty kept = (kept.depth ≡ 0) × (kept.engine ≡ None) × (kept.nodes ≡ []) × (kept.given_up ≡ None)
 
 module _ {O : Type 0} where
   -- the offer with which an event answers a task

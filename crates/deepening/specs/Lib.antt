@@ -1,5 +1,6 @@
 pub mod Depths
 pub mod Kept
-pub mod PlainRounds
+pub mod Ways
+pub mod Rounds
 pub mod Endings
 pub mod RoundEnds

@@ -1,27 +1,30 @@
 //! The rounds of a search.
 
-ghost use Rattle.std.specs.Prelude.{◌≡◌, ◌≤◌, ◌<◌, ◌^◌, ◌-◌, false, true, Bool, IfOk, IfSome};
+ghost use Rattle.std.specs.Prelude.{◌≡◌, ◌<◌, IfOk};
 ghost use Rattle.fof_parse.specs.ProblemView.{plain_problem};
 ghost use Rattle.rewrite_rules.specs.RuleView.{rules_in};
 ghost use Rattle.tab_tree.specs.RoundValue.{HasRulesOfProblem};
-ghost use Rattle.deepening.specs.Depths.{NoneBefore};
 ghost use Rattle.deepening.specs.Endings.{EndsSo};
-ghost use Rattle.deepening.specs.PlainRounds.{IsPlainRound};
-ghost use Rattle.deepening.specs.RoundEnds.{is_open, Settles, EndsRound, MayEnd};
+ghost use Rattle.deepening.specs.RoundEnds.{AreLimits, IsEndOf};
+ghost use Rattle.deepening.specs.Ways.{HasWorkers};
+ghost use Rattle.deepening.specs.declared.order.Way.TheVariants as ways;
 
+use crate::agents::settle_together;
+use crate::alone::settle_alone;
 use crate::endings::Ending;
 use crate::kept::Kept;
 use crate::limits::Limits;
-use crate::rounds::{PlainRound, settle_round};
-use crate::translated::closed;
+use crate::order::{Order, Way};
+use crate::settled::SettledRound;
 use containers::Shared;
 use fof_parse::Problem;
-use nego_plain::settling::{Settled, Verdict};
 use open_walk::report_open;
+use pool_run::gate::Gate;
 use rewrite_rules::Rules;
-use round_offers::TabOffer;
 use std::alloc::{AllocError, Global};
-use tab_tree::{Engine, Round};
+use std::sync::Wait;
+use std::thread::Threads;
+use tab_tree::Round;
 
 /// How a search ended, and its last round.
 #[derive(Drop)]
@@ -30,82 +33,103 @@ pub struct Searched {
     pub kept: Kept,
 }
 
-/// Whether no offer closes the round's tableau.
-fn is_open(verdict: &Verdict<TabOffer>) -> bool
-    ensures { result ≡ is_open verdict.now }
-{
-    match verdict {
-        Verdict::Open(_) => true,
-        Verdict::Closed(_) => false,
-        Verdict::Spent => false,
-    }
-}
-
-/// How the search ends with a round of that verdict.
-fn ending_of(
+/// The round of that depth.
+fn round_at(
     alloc: Global,
-    round: &Round,
-    verdict: &Verdict<TabOffer>,
-    limits: Limits,
-) -> Result<Ending, AllocError>
-    requires settles { Settles round.now verdict.now }
-    requires bytes { limits.proof_bytes ≤ 134217728 }
-    ensures { IfOk result (λ ending. EndsRound round.now limits verdict.now ending) }
+    problem: &Shared<Problem>,
+    rules: &Shared<Rules>,
+    depth: u32,
+) -> Result<Shared<Round>, AllocError>
+    requires { HasRulesOfProblem (record { problem = problem.now; rules = rules.now; depth = depth }) }
+    ensures { IfOk result (λ round. round ≡ record { problem = problem.now; rules = rules.now; depth = depth }) }
 {
-    match verdict {
-        Verdict::Closed(proposal) => closed(
-            alloc,
-            round,
-            proposal.offer().get(),
-            limits.proof_bytes,
-        ),
-        Verdict::Open(_) => Ok(Ending::Exhausted(report_open(alloc, round)?)),
-        Verdict::Spent => Ok(Ending::Spent(limits.tries.unwrap_or(0))),
-    }
+    Shared::new(alloc, Round::new(problem.copy()?, rules.copy()?, depth))
 }
 
-/// The end of a search with this round.
-fn ended(alloc: Global, plain: PlainRound, limits: Limits) -> Result<Searched, AllocError>
-    requires settled { IsPlainRound limits.tries plain.round plain.settled.nodes plain.settled.verdict }
-    requires may_end { MayEnd plain.round limits plain.settled.verdict }
-    requires tries { IfSome limits.tries (λ most. most < 2 ^ 64 - 1) }
-    requires bytes { limits.proof_bytes ≤ 134217728 }
-    ensures { IfOk result
-        (λ s. EndsSo (plain_problem plain.round.problem) (rules_in plain.round.rules) limits s.kept s.ending) }
+/// The end of a search with its last round.
+fn ended(alloc: Global, round: &Round, last: SettledRound) -> Result<Searched, AllocError>
+    ensures { IfOk result (λ s. IsEndOf round.now last s) }
 {
-    let PlainRound { round, settled } = plain;
-    let Settled { verdict, nodes } = settled;
-    let round = round.get();
-    let ending = ending_of(alloc, round, &verdict, limits)?;
-    let kept = Kept {
-        depth: round.depth(),
-        engine: Some(Engine::Plain),
-        nodes,
+    let SettledRound { ending, kept } = last;
+    let ending = match ending {
+        Some(ending) => ending,
+        None => Ending::Exhausted(report_open(alloc, round)?),
     };
     Ok(Searched { ending, kept })
 }
 
 /// Searches the tableaux of depth 1, 2, .. up to the limit for the first one that some offer closes, and translates its
-/// closed tree. Each round is settled by the plain order with the attempts of one round. The only error is want of
-/// memory.
-pub fn search(
+/// closed tree. Each round is settled on the calling thread, in that order. The only error is want of memory.
+pub fn search_alone(
     alloc: Global,
     problem: &Shared<Problem>,
     rules: &Shared<Rules>,
     limits: Limits,
+    order: Order,
 ) -> Result<Searched, AllocError>
     requires rules { HasRulesOfProblem (record { problem = problem.now; rules = rules.now; depth = 0 }) }
-    requires depth { 1 ≤ limits.depth }
-    requires tries { IfSome limits.tries (λ most. most < 2 ^ 64 - 1) }
-    requires bytes { limits.proof_bytes ≤ 134217728 }
-    ensures { IfOk result (λ s. EndsSo (plain_problem problem.now) (rules_in rules.now) limits s.kept s.ending) }
+    requires limits { AreLimits limits }
+    ensures { IfOk result
+        (λ s. EndsSo (plain_problem problem.now) (rules_in rules.now) limits (ways.Alone order) s.kept s.ending) }
 {
     for depth in 1..limits.depth {
-        let round = settle_round(alloc, problem, rules, depth, limits.tries)?;
-        if !is_open(&round.settled.verdict) {
-            return ended(alloc, round, limits);
+        let round = round_at(alloc, problem, rules, depth)?;
+        let settled = settle_alone(alloc, &round, limits, order)?;
+        if settled.ending.is_some() {
+            return ended(alloc, round.get(), settled);
         }
     }
-    let last = settle_round(alloc, problem, rules, limits.depth, limits.tries)?;
-    ended(alloc, last, limits)
+    let round = round_at(alloc, problem, rules, limits.depth)?;
+    let last = settle_alone(alloc, &round, limits, order)?;
+    ended(alloc, round.get(), last)
+}
+
+/// The same search, where so many workers settle each round.
+fn search_together<G: Gate, R: Threads + Wait + Sync>(
+    rt: &R,
+    alloc: Global,
+    problem: &Shared<Problem>,
+    rules: &Shared<Rules>,
+    limits: Limits,
+    workers: u32,
+    gate: &G,
+) -> Result<Searched, AllocError>
+    requires rules { HasRulesOfProblem (record { problem = problem.now; rules = rules.now; depth = 0 }) }
+    requires limits { AreLimits limits }
+    requires some { 0 < workers }
+    ensures { IfOk result
+        (λ s. EndsSo (plain_problem problem.now) (rules_in rules.now) limits (ways.Agents workers) s.kept s.ending) }
+{
+    for depth in 1..limits.depth {
+        let round = round_at(alloc, problem, rules, depth)?;
+        let settled = settle_together(rt, alloc, &round, limits, workers, gate)?;
+        if settled.ending.is_some() {
+            return ended(alloc, round.get(), settled);
+        }
+    }
+    let round = round_at(alloc, problem, rules, limits.depth)?;
+    let last = settle_together(rt, alloc, &round, limits, workers, gate)?;
+    ended(alloc, round.get(), last)
+}
+
+/// The search in any way. The gate is called before each visit that a worker makes. Workers may wait for one another.
+pub fn search<G: Gate, R: Threads + Wait + Sync>(
+    rt: &R,
+    alloc: Global,
+    problem: &Shared<Problem>,
+    rules: &Shared<Rules>,
+    limits: Limits,
+    way: Way,
+    gate: &G,
+) -> Result<Searched, AllocError>
+    requires rules { HasRulesOfProblem (record { problem = problem.now; rules = rules.now; depth = 0 }) }
+    requires limits { AreLimits limits }
+    requires workers { HasWorkers way }
+    ensures { IfOk result
+        (λ s. EndsSo (plain_problem problem.now) (rules_in rules.now) limits way s.kept s.ending) }
+{
+    match way {
+        Way::Alone(order) => search_alone(alloc, problem, rules, limits, order),
+        Way::Agents(workers) => search_together(rt, alloc, problem, rules, limits, workers, gate),
+    }
 }

@@ -7,10 +7,18 @@ ghost use Rattle.goeland_run.specs.Run.{exit_of};
 
 use deepening::Kept;
 use gl_outside::{HostShelf, HostSink};
-use goeland_run::{Status, run_alone};
+use goeland_run::{Status, run};
+use pool_run::gate::Gate;
 use std::env;
 use std::io::{self, ErrorKind};
 use std::process::ExitCode;
+
+/// A gate that holds nobody up.
+struct Ajar;
+
+impl Gate for Ajar {
+    fn before(&self, _node: u128) {}
+}
 
 /// The exit code that tells how a run ended.
 fn exit_code(status: Status) -> ExitCode
@@ -43,5 +51,13 @@ fn main(rt: HostRuntime) -> ExitCode {
     let mut shelf = HostShelf::new(&rt);
     let mut out = HostSink::new(&rt);
     let mut kept = Kept::new(alloc);
-    exit_code(run_alone(alloc, words.as_slice(), &mut shelf, &mut out, &mut kept))
+    exit_code(run(
+        &rt,
+        alloc,
+        words.as_slice(),
+        &mut shelf,
+        &mut out,
+        &Ajar,
+        &mut kept,
+    ))
 }

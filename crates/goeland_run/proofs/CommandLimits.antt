@@ -8,7 +8,8 @@ use Rattle.goeland_words.specs.Values.{IsTries, IsProblem}
 use Rattle.goeland_words.specs.Words.{IsCommand}
 use Rattle.goeland_words.specs.declared.words.Command.TheVariants.{Prove, Bench}
 use Rattle.goeland_words.specs.declared.prove.ProveWords.{ProveWords}
-use Rattle.goeland_run.specs.Searched.{limits_of, AreLimits}
+use Rattle.deepening.specs.RoundEnds.{AreLimits}
+use Rattle.goeland_run.specs.Searched.{limits_of}
 
 number_or_within : (default least most : ℕ) (o : Option Text) (n : ℕ) → least ≤ default → default ≤ most → IsNumberOr default least most o n → (least ≤ n) × (n ≤ most)
 number_or_within default least most None n low high is = (omega (arith, low, is), omega (arith, high, is))

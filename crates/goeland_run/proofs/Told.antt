@@ -13,6 +13,7 @@ use Rattle.rewrite_rules.specs.Rules.{RewriteRule, RulesOf}
 use Rattle.round_offers.specs.RoundOffer.{RoundOffer}
 use Rattle.goeland_words.specs.declared.prove.ProveWords.{ProveWords}
 use Rattle.deepening.specs.declared.kept.Kept.{Kept}
+use Rattle.deepening.specs.declared.order.Way.{Way}
 use Rattle.goeland_report.specs.Outcome.{Outcome, Proof, GiveUp, proof, give_up}
 use Rattle.goeland_report.specs.Output.{output, first_part}
 use Rattle.goeland_report.specs.Reported.{IsReport}
@@ -43,18 +44,18 @@ made_text functions file o r report =
     ap (λ (x : List ℕ). x ++ r.second.items) report.first
     ∙ ap (λ (y : List ℕ). first_part (offer_words functions) file o ++ y) report.second
 
-module _ (p : ProveWords) (problem : PlainProblem) (kept : Kept) where
+module _ (way : Way) (p : ProveWords) (problem : PlainProblem) (kept : Kept) where
   abbrev pub functions : List Symbol
   functions = problem.symbols.functions
 
   -- the report of a proof, from what each part of it says
-  pub tells_proof : (steps : List Step) (told : Proof RoundOffer) (r : Report) → HasSteps p problem kept steps
+  pub tells_proof : (steps : List Step) (told : Proof RoundOffer) (r : Report) → HasSteps way p problem kept steps
       → told.depth ≡ kept.depth → told.theorem ≡ is_some problem.conjecture → told.engine ≡ engine_or_plain kept.engine
       → told.history ≡ asked_history p.history kept
       → told.text ≡ text_of (proof_lines functions (rules_of steps))
       → ((whole : ProofTree) → HasShape whole → preorder whole ≡ rules_of steps → ProofText functions told.text whole)
       → ((tree : ProofTree) → ProofText functions told.text tree → ProofText functions (r.first.items ++ r.second.items) tree)
-      → IsReport (offer_words functions) p.file (proof told) r → TellsOutcome p problem kept (Made r) status.Proved
+      → IsReport (offer_words functions) p.file (proof told) r → TellsOutcome way p problem kept (Made r) status.Proved
   tells_proof steps told r has depth theorem engine history text of_tree whole report =
       let found = has.found.found in
       let shape = refutation_shape (Start problem) found.tree has.found.is_found.refutes in
@@ -80,15 +81,15 @@ module _ (p : ProveWords) (problem : PlainProblem) (kept : Kept) where
       }
 
   -- the report of a search that was given up
-  pub tells_cause : (cause : Cause) (told : GiveUp RoundOffer) (r : Report) → HasCause p problem kept cause
+  pub tells_cause : (cause : Cause) (told : GiveUp RoundOffer) (r : Report) → HasCause way p problem kept cause
       → told.cause ≡ cause → told.engine ≡ engine_or_plain kept.engine → told.history ≡ asked_history p.history kept
-      → IsReport (offer_words functions) p.file (give_up told) r → TellsOutcome p problem kept (Made r) status.GaveUp
+      → IsReport (offer_words functions) p.file (give_up told) r → TellsOutcome way p problem kept (Made r) status.GaveUp
   tells_cause cause told r has is engine history report =
       record {
         outcome = give_up told;
         found_out =
             record {
-              cause = subst (HasCause p problem kept) (sym is) has;
+              cause = subst (HasCause way p problem kept) (sym is) has;
               engine = engine;
               history = history;
             };
@@ -98,6 +99,6 @@ module _ (p : ProveWords) (problem : PlainProblem) (kept : Kept) where
 
   -- the answer under the rules of the problem
   pub finds_out : (rules : List RewriteRule) (found : Answer) → RulesOf p.rewrite problem.axioms rules
-      → HasAnswer problem rules (limits_of p) kept found → FindsOut p problem kept found
+      → HasAnswer problem rules (limits_of p) way kept found → FindsOut way p problem kept found
   finds_out rules (answer.Steps steps) of_problem has = record { rules = rules; of_problem = of_problem; found = has }
   finds_out rules (answer.GaveUp cause) of_problem has = record { rules = rules; of_problem = of_problem; why = has }

@@ -8,6 +8,7 @@ use Rattle.rewrite_rules.specs.Rules.{RewriteRule, RulesOf}
 use Rattle.goeland_report.specs.Output.{bench_line}
 use Rattle.goeland_report.specs.declared.cause.BenchResult.{BenchResult}
 use Rattle.goeland_report.specs.declared.cause.BenchResult.TheVariants as ended
+use Rattle.deepening.specs.declared.order.Way.{Way}
 use Rattle.goeland_run.specs.PrintedText.{printed_text}
 use Rattle.goeland_run.specs.Run.{status_of_bench}
 use Rattle.goeland_run.specs.Searched.{bench_limits, HasAnswer}
@@ -21,16 +22,16 @@ result_of (answer.Steps steps) depth bytes = ended.Proved depth bytes
 result_of (answer.GaveUp cause) depth bytes = ended.GaveUp cause
 
 -- what is printed of a search, and the status of a search of the problem with the bench's limits
-pub record BenchesProblem (n bytes : ℕ) (problem : PlainProblem) (d : Decided) : Type 0 where
+pub record BenchesProblem (way : Way) (n bytes : ℕ) (problem : PlainProblem) (d : Decided) : Type 0 where
   pub rules : List RewriteRule
   pub of_problem : RulesOf true problem.axioms rules
   pub found : Answer
-  pub has_answer : HasAnswer problem rules bench_limits d.kept found
+  pub has_answer : HasAnswer problem rules bench_limits way d.kept found
   pub text : printed_text d.printed ≡ text_of (bench_line n (result_of found d.kept.depth bytes) ∷ [])
   pub status : d.status ≡ status_of_bench (result_of found d.kept.depth bytes)
 
 -- the same of problem n
-pub record Benches (n : ℕ) (d : Decided) : Type 0 where
+pub record Benches (way : Way) (n : ℕ) (d : Decided) : Type 0 where
   pub problem : PlainProblem
   pub of_text : IsTheProblem (problem_text n) problem
-  pub benches : BenchesProblem n (length (problem_text n)) problem d
+  pub benches : BenchesProblem way n (length (problem_text n)) problem d

@@ -7,3 +7,4 @@ pub mod Run
 pub mod Telling
 pub mod Benching
 pub mod Deciding
+pub mod Jobs

@@ -1,5 +1,5 @@
 -- What a run reports, and why: one record for each report.
-use Rattle.std.specs.Prelude.{◌≡◌, ◌≤◌, ◌<◌, ℕ, true, List, length, IfSome, IsSome, None}
+use Rattle.std.specs.Prelude.{◌≡◌, ◌≤◌, ◌<◌, ℕ, true, List, length, IfSome, None}
 use Rattle.fol_core.specs.Symbol.{Symbol}
 use Rattle.gl_outside.specs.Outside.{HasRisen}
 use Rattle.fof_parse.specs.Problem.{PlainProblem}
@@ -8,23 +8,24 @@ use Rattle.fof_parse.specs.declared.refusal.BadKind.{BadKind}
 use Rattle.rewrite_rules.specs.Rules.{RewriteRule, RulesOf}
 use Rattle.round_offers.specs.RoundOffer.{RoundOffer}
 use Rattle.translation.specs.Measures.{MeasuredProof}
-use Rattle.goeland_words.specs.Words.{IsCommand}
-use Rattle.goeland_words.specs.declared.words.Command.{Command}
+use Rattle.goeland_words.specs.Words.{IsCommand, IsNoCommand}
 use Rattle.goeland_words.specs.declared.words.Command.TheVariants.{Prove, Bench}
 use Rattle.goeland_words.specs.declared.prove.ProveWords.{ProveWords}
 use Rattle.fof_gen.specs.Generated.{problem_text}
 use Rattle.deepening.specs.Endings.{IsFound}
 use Rattle.deepening.specs.Kept.{IsEmpty}
 use Rattle.deepening.specs.declared.kept.Kept.{Kept}
+use Rattle.deepening.specs.declared.order.Way.{Way}
 use Rattle.goeland_report.specs.Outcome.{Outcome, usage, too_large, read_fault, no_tokens, no_problem}
 use Rattle.goeland_report.specs.Outcome.{give_up, proof, bench}
 use Rattle.goeland_report.specs.declared.cause.BenchResult.{BenchResult}
 use Rattle.goeland_report.specs.declared.cause.BenchResult.TheVariants as ended
 use Rattle.goeland_run.specs.Outside.{Reading, IsReadable}
-use Rattle.goeland_run.specs.Searched.{bench_limits, IsGivenUp, HasGivenUp, HasProved}
+use Rattle.goeland_run.specs.Searched.{bench_limits, way_of, way_asked, IsGivenUp, HasGivenUp, HasProved}
+use Rattle.goeland_run.specs.declared.ways.Threading.{Threading}
 
 -- What is reported of the file that the words name.
-module _ (r : Reading) (p : ProveWords) (kept : Kept) where
+module _ (way : Way) (r : Reading) (p : ProveWords) (kept : Kept) where
   -- It could not be read.
   pub record IsUnread : Type 0 where
     pub fault : HasRisen r.unread r.unread_after
@@ -71,34 +72,24 @@ module _ (r : Reading) (p : ProveWords) (kept : Kept) where
   ReportsFile functions too_large = IsTooLarge
   ReportsFile functions (no_tokens offset) = IsNoTokens offset
   ReportsFile functions (no_problem kind offset) = IsRefused kind offset
-  ReportsFile functions (give_up g) = Searches functions (λ problem. HasGivenUp p problem kept g)
-  ReportsFile functions (proof told) = Searches functions (λ problem. HasProved p problem kept told)
+  ReportsFile functions (give_up g) = Searches functions (λ problem. HasGivenUp way p problem kept g)
+  ReportsFile functions (proof told) = Searches functions (λ problem. HasProved way p problem kept told)
   ReportsFile functions usage = ⊥
   ReportsFile functions (bench n result) = ⊥
 
--- No engine follows a schedule yet: words that ask for one are no command.
-abbrev pub IsUnserved : Command → Type 0
-IsUnserved (Prove p) = IsSome p.schedule
-IsUnserved (Bench n workers) = ⊥
-
-module _ (r : Reading) (words : List (List ℕ)) (kept : Kept) where
-  -- The words are no command that is served.
+module _ (threads : Threading) (r : Reading) (words : List (List ℕ)) (kept : Kept) where
+  -- The words are no command.
   pub record IsUsage : Type 0 where
-    pub none : (c : Command) → IsCommand words c → IsUnserved c
+    pub none : IsNoCommand words
     pub readable : IsReadable r
     pub empty : IsEmpty kept
 
-  -- The words ask to prove the problem of a file.
-  pub record Asks (p : ProveWords) : Type 0 where
-    pub is_command : IsCommand words (Prove p)
-    pub served : p.schedule ≡ None
-
   -- The search of the bench's problem ended so.
-  abbrev pub EndsBench : ℕ → PlainProblem → List RewriteRule → BenchResult → Type 0
-  EndsBench n problem rules (ended.Proved depth bytes) =
-      ((found : MeasuredProof) × IsFound problem rules bench_limits kept found) × (depth ≡ kept.depth)
+  abbrev pub EndsBench : Way → ℕ → PlainProblem → List RewriteRule → BenchResult → Type 0
+  EndsBench way n problem rules (ended.Proved depth bytes) =
+      ((found : MeasuredProof) × IsFound problem rules bench_limits way kept found) × (depth ≡ kept.depth)
       × (bytes ≡ length (problem_text n))
-  EndsBench n problem rules (ended.GaveUp cause) = IsGivenUp problem rules bench_limits kept cause
+  EndsBench way n problem rules (ended.GaveUp cause) = IsGivenUp problem rules bench_limits way kept cause
 
   pub record HasBenched (n : ℕ) (result : BenchResult) : Type 0 where
     pub workers : ℕ
@@ -108,14 +99,14 @@ module _ (r : Reading) (words : List (List ℕ)) (kept : Kept) where
     pub of_text : IsTheProblem (problem_text n) problem
     pub rules : List RewriteRule
     pub of_problem : RulesOf true problem.axioms rules
-    pub ends : EndsBench n problem rules result
+    pub ends : EndsBench (way_of threads workers None) n problem rules result
 
   -- The file is that of the words, and the outcome has its cause.
   pub record Under (file : List ℕ) (functions : List Symbol) (outcome : Outcome RoundOffer) : Type 0 where
     pub asked : ProveWords
-    pub asks : Asks asked
+    pub asks : IsCommand words (Prove asked)
     pub of_file : file ≡ asked.file
-    pub cause : ReportsFile r asked kept functions outcome
+    pub cause : ReportsFile (way_asked threads asked) r asked kept functions outcome
 
   abbrev pub Reports : List ℕ → List Symbol → Outcome RoundOffer → Type 0
   Reports file functions usage = IsUsage

@@ -1,4 +1,4 @@
--- What a run that starts no thread does.
+-- What a run does.
 use Rattle.std.specs.Prelude.{◌≡◌, ◌⊎◌, ℕ, List}
 use Rattle.fol_core.specs.Symbol.{Symbol}
 use Rattle.round_offers.specs.RoundOffer.{RoundOffer}
@@ -11,6 +11,7 @@ use Rattle.deepening.specs.Kept.{IsEmpty}
 use Rattle.deepening.specs.declared.kept.Kept.{Kept}
 use Rattle.goeland_run.specs.declared.status.Status.{Status}
 use Rattle.goeland_run.specs.declared.status.Status.TheVariants as status
+use Rattle.goeland_run.specs.declared.ways.Threading.{Threading}
 use Rattle.goeland_run.specs.Outside.{Reading, Writing, IsReadable, IsUntouched, Prints}
 use Rattle.goeland_run.specs.Histories.{offer_words}
 use Rattle.goeland_run.specs.Reports.{Reports}
@@ -40,11 +41,12 @@ exit_of status.WriteFault = 5
 exit_of status.OutOfMemory = 6
 
 -- An outcome with its cause was reported. Offers are spelled over the problem's function symbols.
-pub record IsTold (words : List (List ℕ)) (r : Reading) (w : Writing) (kept : Kept) (end : Status) : Type 0 where
+pub record IsTold (threads : Threading) (words : List (List ℕ)) (r : Reading) (w : Writing) (kept : Kept)
+    (end : Status) : Type 0 where
   pub file : List ℕ
   pub functions : List Symbol
   pub outcome : Outcome RoundOffer
-  pub cause : Reports r words kept file functions outcome
+  pub cause : Reports threads r words kept file functions outcome
   pub prints : Prints w (output (offer_words functions) file outcome) (status_of outcome) end
 
 -- There was no memory. Nothing was written or kept, and no fault came.
@@ -55,5 +57,5 @@ pub record IsStarved (r : Reading) (w : Writing) (kept : Kept) (end : Status) : 
   pub empty : IsEmpty kept
 
 -- a run with these words
-abbrev pub RanAlone : List (List ℕ) → Reading → Writing → Kept → Status → Type 0
-RanAlone words r w kept end = IsTold words r w kept end ⊎ IsStarved r w kept end
+abbrev pub Ran : Threading → List (List ℕ) → Reading → Writing → Kept → Status → Type 0
+Ran threads words r w kept end = IsTold threads words r w kept end ⊎ IsStarved r w kept end

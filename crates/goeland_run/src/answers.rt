@@ -5,6 +5,7 @@ ghost use Rattle.fof_parse.specs.Problem.{PlainProblem};
 ghost use Rattle.rewrite_rules.specs.Rules.{RewriteRule};
 ghost use Rattle.deepening.specs.Endings.{EndsSo};
 ghost use Rattle.deepening.specs.declared.kept.Kept.{Kept as KeptValue};
+ghost use Rattle.deepening.specs.declared.order.Way.{Way as WayOf};
 ghost use Rattle.goeland_run.specs.Searched.{HasAnswer};
 
 use deepening::{Ending, Limits};
@@ -20,8 +21,8 @@ pub(crate) enum Answer {
 
 /// What a search comes to that ended so at that depth.
 pub(crate) fn answer_of(ending: Ending, limits: Limits, depth: u32) -> Answer
-    ensures { (problem : PlainProblem) (rules : List RewriteRule) (kept : KeptValue) → kept.depth ≡ depth
-        → EndsSo problem rules limits kept ending → HasAnswer problem rules limits kept result }
+    ensures { (problem : PlainProblem) (rules : List RewriteRule) (way : WayOf) (kept : KeptValue) → kept.depth ≡ depth
+        → EndsSo problem rules limits way kept ending → HasAnswer problem rules limits way kept result }
 {
     match ending {
         Ending::Found(steps) => Answer::Steps(steps),

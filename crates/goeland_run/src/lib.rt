@@ -2,17 +2,19 @@
 #![tactic(auto)]
 
 mod answers;
-mod benching;
 mod decided;
 mod deciding;
 mod histories;
+mod job;
 mod limits;
+mod planning;
 mod printed;
 mod printing;
-mod proving;
 mod status;
+mod telling;
+mod ways;
 
-pub use printing::run_alone;
+pub use printing::{run, run_alone};
 pub use status::Status;
 
 #[cfg(test)]

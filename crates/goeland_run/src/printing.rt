@@ -5,15 +5,21 @@ ghost use Rattle.gl_outside.specs.Outside.{HasRisen, Appends, AppendsFront};
 ghost use Rattle.goeland_words.specs.Words.{texts_of};
 ghost use Rattle.goeland_run.specs.Outside.{Prints};
 ghost use Rattle.goeland_run.specs.PrintedText.{printed_text};
-ghost use Rattle.goeland_run.specs.Run.{RanAlone};
+ghost use Rattle.deepening.specs.Kept.{IsEmpty};
+ghost use Rattle.goeland_run.specs.Deciding.{EndsRun};
+ghost use Rattle.goeland_run.specs.Run.{Ran};
+ghost use Rattle.goeland_run.specs.declared.ways.Threading.TheVariants as threadings;
 
 use crate::decided::Decided;
-use crate::deciding::decide;
+use crate::deciding::{decide, decide_alone};
 use crate::printed::{Printed, first_text, second_text};
 use crate::status::Status;
 use deepening::Kept;
 use gl_outside::{Shelf, Sink, SinkFailed};
+use pool_run::gate::Gate;
 use std::alloc::{AllocError, Global};
+use std::sync::Wait;
+use std::thread::Threads;
 
 /// Prints a text: a proof by two puts, every other text by one.
 fn put_printed<K: Sink>(out: &mut K, printed: &Printed) -> Result<(), SinkFailed>
@@ -47,32 +53,17 @@ fn tell<K: Sink>(out: &mut K, printed: &Printed, end: Status) -> Status
     }
 }
 
-/// Does what the words ask for, on one thread: proves the problem of a file of the shelf, or one of the bench.
-///
-/// The status is `Proved` exactly where some tableau up to the limit of depth has a closing substitution, unless a
-/// limit, a fault or want of memory ends the run. What is printed then is a GS3 refutation of the axioms and the
-/// negated conjecture. The last round is kept in `kept`, also where the output could not be written; after want of
-/// memory nothing was written or kept. The shelf holds what it held.
-pub fn run_alone<S: Shelf, K: Sink>(
-    alloc: Global,
-    words: &[String],
-    shelf: &mut S,
-    out: &mut K,
-    kept: &mut Kept,
-) -> Status
-    ensures ran { RanAlone (texts_of words.now)
-        (record { holds = S.holds shelf.old; unread = S.faults shelf.old; unread_after = S.faults shelf.new })
-        (record {
-          written = K.written out.old;
-          written_after = K.written out.new;
-          unwritten = K.faults out.old;
-          unwritten_after = K.faults out.new;
-        })
-        kept.new result }
-    ensures same_shelf { (other : List ℕ) → S.holds shelf.new other ≡ S.holds shelf.old other }
+/// Ends a run that decided so: keeps its last round, and prints.
+fn end_run<K: Sink>(decided: Result<Decided, AllocError>, out: &mut K, kept: &mut Kept) -> Status
+    requires { IsEmpty kept.old }
+    ensures { EndsRun (record {
+      written = K.written out.old;
+      written_after = K.written out.new;
+      unwritten = K.faults out.old;
+      unwritten_after = K.faults out.new;
+    }) kept.new result decided }
 {
-    *kept = Kept::new(alloc);
-    match decide(alloc, words, shelf) {
+    match decided {
         Ok(
             Decided {
                 printed,
@@ -85,4 +76,64 @@ pub fn run_alone<S: Shelf, K: Sink>(
         }
         Err(AllocError) => Status::OutOfMemory,
     }
+}
+
+/// Does what the words ask for, on one thread: proves the problem of a file of the shelf, or one of the bench. It waits
+/// for nobody.
+///
+/// The status is `Proved` exactly where some tableau up to the limit of depth has a closing substitution, unless a
+/// limit, a fault or want of memory ends the run. What is printed then is a GS3 refutation of the axioms and the
+/// negated conjecture. The last round is kept in `kept`, also where the output could not be written; after want of
+/// memory nothing was written or kept. The shelf holds what it held.
+pub fn run_alone<S: Shelf, K: Sink>(
+    alloc: Global,
+    words: &[String],
+    shelf: &mut S,
+    out: &mut K,
+    kept: &mut Kept,
+) -> Status
+    ensures ran { Ran threadings.OneThread (texts_of words.now)
+        (record { holds = S.holds shelf.old; unread = S.faults shelf.old; unread_after = S.faults shelf.new })
+        (record {
+          written = K.written out.old;
+          written_after = K.written out.new;
+          unwritten = K.faults out.old;
+          unwritten_after = K.faults out.new;
+        })
+        kept.new result }
+    ensures same_shelf { (other : List ℕ) → S.holds shelf.new other ≡ S.holds shelf.old other }
+{
+    *kept = Kept::new(alloc);
+    let decided = decide_alone(alloc, words, shelf);
+    end_run(decided, out, kept)
+}
+
+/// Does what the words ask for, with as many workers as they ask for, each in a thread of its own where one can be
+/// made. The gate is called before each visit that a worker makes.
+///
+/// All that `run_alone` says holds here, whatever the number of workers is and in whatever order they come, if the call
+/// returns: the workers wait for one another.
+pub fn run<S: Shelf, K: Sink, G: Gate, R: Threads + Wait + Sync>(
+    rt: &R,
+    alloc: Global,
+    words: &[String],
+    shelf: &mut S,
+    out: &mut K,
+    gate: &G,
+    kept: &mut Kept,
+) -> Status
+    ensures ran { Ran threadings.ManyThreads (texts_of words.now)
+        (record { holds = S.holds shelf.old; unread = S.faults shelf.old; unread_after = S.faults shelf.new })
+        (record {
+          written = K.written out.old;
+          written_after = K.written out.new;
+          unwritten = K.faults out.old;
+          unwritten_after = K.faults out.new;
+        })
+        kept.new result }
+    ensures same_shelf { (other : List ℕ) → S.holds shelf.new other ≡ S.holds shelf.old other }
+{
+    *kept = Kept::new(alloc);
+    let decided = decide(rt, alloc, words, shelf, gate);
+    end_run(decided, out, kept)
 }

@@ -9,6 +9,7 @@ ghost use Rattle.nego_node.specs.Board.{first_board};
 ghost use Rattle.nego_core.specs.Bare.{bare};
 ghost use Rattle.nego_core.specs.Facts.{HasHistory, TookAllowed, TurnedDownOnce, AnswersTruly};
 ghost use Rattle.nego_core.specs.Verdict.{root_answer, IsDecided, IsNeverStuck};
+ghost use Rattle.nego_core.specs.Links.{StandsAt};
 ghost use Rattle.nego_core.specs.Picking.{Leads};
 ghost use Rattle.nego_core.specs.Plays.{counted};
 
@@ -136,6 +137,7 @@ pub fn run_picks<F: Field>(
     ensures run { IfOk result (λ board. Leads F.Offer.tree (F.tree field.now) round (first_board round) 0 picks.now
         (bare board.nodes) board.unlawful) }
     ensures board { IfOk result (λ board. IsBoard F.Offer.tree (F.tree field.now) round (bare board.nodes)) }
+    ensures root { IfOk result (λ board. StandsAt (bare board.nodes) 0 1) }
     ensures sites { IfOk result (λ board. All (λ n. F.around n.site ≡ F.tree field.now) board.nodes) }
     ensures histories { IfOk result
         (λ board. All (HasHistory F.Offer.tree (F.tree field.now) round) (bare board.nodes)) }
