@@ -36,12 +36,13 @@ use Rattle.deepening.specs.declared.kept.Kept.{Kept}
 use Rattle.deepening.specs.declared.limits.Limits.{Limits}
 use Rattle.deepening.specs.declared.endings.Ending.{Ending}
 use Rattle.deepening.specs.declared.endings.Ending.TheVariants.{Found, Exhausted, Spent, Long, Deep}
+use Rattle.gs3_text.specs.declared.limit.TheConstants.{MAX_PROOF_BYTES}
 
 -- limits that the words of a command can set
 pub record AreLimits (limits : Limits) : Type 0 where
   pub depth : 1 ≤ limits.depth
   pub tries : IfSome limits.tries (λ most. most < 2 ^ 64 - 1)
-  pub bytes : limits.proof_bytes ≤ 134217728
+  pub bytes : limits.proof_bytes ≤ MAX_PROOF_BYTES
 
 -- the ending tells of the translation: its steps where it is within the limits, or which of them it is over
 abbrev pub EndsWith : PlainProblem → ℕ → MeasuredProof → Ending → Type 0

@@ -8,6 +8,7 @@ ghost use Rattle.tab_tree.specs.ClosingView.{closed_tree_of};
 ghost use Rattle.translation.specs.Laws.{IsClosedRound, translation};
 ghost use Rattle.round_offers.specs.RoundTableau.{ClosesRound};
 ghost use Rattle.deepening.specs.RoundEnds.{EndsWith, EndsClosed};
+ghost use Rattle.gs3_text.specs.declared.limit.TheConstants.{MAX_PROOF_BYTES};
 
 use crate::endings::Ending;
 use closing_tree::closed_tree;
@@ -27,7 +28,7 @@ fn proof_of(
 ) -> Result<Ending, AllocError>
     requires closed { IsClosedRound (plain_problem round.now.problem) (rules_in round.now.rules) round.now.depth
         (offer_of s.now) (closed_tree_of tree.now) }
-    requires limit { limit ≤ 134217728 }
+    requires limit { limit ≤ MAX_PROOF_BYTES }
     ensures { IfOk result (λ ending. EndsWith (plain_problem round.now.problem) limit
         (translation (plain_problem round.now.problem) (rules_in round.now.rules) (offer_of s.now)
         (closed_tree_of tree.now)) ending) }
@@ -49,7 +50,7 @@ pub(crate) fn closed(
 ) -> Result<Ending, AllocError>
     requires of_round { offer.now.round ≡ round.now }
     requires closes { ClosesRound round.now (offer_of offer.now.bindings) }
-    requires limit { limit ≤ 134217728 }
+    requires limit { limit ≤ MAX_PROOF_BYTES }
     ensures { IfOk result (λ ending. EndsClosed round.now offer.now limit ending) }
 {
     // The reader tells that these are the rules of the round's problem.

@@ -34,6 +34,7 @@ use Rattle.deskolem.specs.declared.line.Line.{Line}
 use Rattle.deskolem.specs.declared.standing.Walk.{Walk}
 use Rattle.deskolem.proofs.Steps.{run_length}
 use Rattle.deskolem.proofs.Turns.{grows_from}
+use Rattle.gs3_text.specs.declared.limit.TheConstants.{MAX_PROOF_BYTES}
 
 follows_next : (R : Name → FreeTerms → Type 0) (s : Offer) (d : ℕ) (b : Branch) (c : StepTree) → Follows R s d b c → AreNext d b c
 follows_next R s d b (closes item) h = tt
@@ -156,7 +157,7 @@ module _ (problem : PlainProblem) (rules : List RewriteRule) (d : ℕ) (s : Offe
       refused_answer problem limit (translation problem rules s c) e
       (subst (λ l. AreBuilt problem.symbols.functions l limit (Err e)) (same_steps lines most h) b)
 
-  pub answered : (lines : List Line) (most : ℕ) (steps : List Step) → IsKept problem → limit ≤ 134217728 → ListsSteps problem c most (Ok lines)
+  pub answered : (lines : List Line) (most : ℕ) (steps : List Step) → IsKept problem → limit ≤ MAX_PROOF_BYTES → ListsSteps problem c most (Ok lines)
       → AreBuilt problem.symbols.functions (rules_of_lines s (symbols_of lines) lines) limit (Ok steps) → Answers problem limit (translation problem rules s c) (Ok steps)
   answered lines most steps kept small h b =
       let w : AreBuilt problem.symbols.functions (preorder (translation problem rules s c).tree) limit (Ok steps) = subst (λ l. AreBuilt problem.symbols.functions l limit (Ok steps)) (same_steps lines most h) b in

@@ -16,6 +16,7 @@ use Rattle.deskolem.specs.declared.answer.GsError.{GsError}
 use Rattle.deskolem.specs.declared.answer.GsError.TheVariants.{Bytes, Nesting, OutOfMemory}
 use Rattle.deskolem.specs.declared.count.Count.{Count}
 use Rattle.deskolem.proofs.Spanned.{zero_bytes}
+use Rattle.gs3_text.specs.declared.limit.TheConstants.{MAX_PROOF_BYTES}
 
 module _ (fs : List Symbol) (ys : List Name) (l : Lengths) (are : AreLengths fs ys l) where
   mutual
@@ -48,7 +49,7 @@ pub sum_as : (so_far : Count) (n m d e limit : ℕ) (r : Result Count GsError) �
 sum_as so_far n m d e limit r same level is = subst (λ k. IsSum so_far m k limit r) level (subst (λ k. IsSum so_far k d limit r) same is)
 
 pub gamma_sum : (fs : List Symbol) (ys : List Name) (l : Lengths) → AreLengths fs ys l → (s : Offer) (so_far : Count) (place : ℕ) (t : FreeTerm) (e : Extent) (limit : ℕ) (r : Result Count GsError)
-    → HasExtent s l most_counted t e → limit ≤ 134217728 → IsSum so_far (8 + digits_of place + e.length) e.depth limit r
+    → HasExtent s l most_counted t e → limit ≤ MAX_PROOF_BYTES → IsSum so_far (8 + digits_of place + e.length) e.depth limit r
     → Adds fs so_far (gamma place (term_under s ys t) ∷ []) limit r
 gamma_sum fs ys l are s so_far place t e limit (Ok c) has le is =
     let text = closed_length fs ys l are (resolved s t) in

@@ -3,6 +3,7 @@
 ghost use Rattle.std.specs.Prelude.{◌≡◌, ◌≤◌};
 ghost use Rattle.translation.specs.Counting.{digits_of};
 ghost use Rattle.deskolem.specs.Sums.{IsSum};
+ghost use Rattle.gs3_text.specs.declared.limit.TheConstants.{MAX_PROOF_BYTES};
 
 use crate::answer::GsError;
 use itoa::Buffer;
@@ -29,7 +30,7 @@ pub(crate) fn digits(n: u64) -> u64
 /// Adds so many bytes with terms of that depth, and Bytes where there is no more room.
 pub(crate) fn add(so_far: Count, bytes: u64, depth: u64, limit: u64) -> Result<Count, GsError>
     requires so_far { so_far.bytes ≤ limit }
-    requires limit { limit ≤ 134217728 }
+    requires limit { limit ≤ MAX_PROOF_BYTES }
     requires bytes { bytes ≤ 1073741824 }
     ensures { IsSum so_far bytes depth limit result }
 {

@@ -13,6 +13,7 @@ ghost use Rattle.translation.specs.Translation.{fill_under, term_under};
 ghost use Rattle.deskolem.specs.Lines.{HasRoom, IsWithin, expansion_by, opening, rules_of_line, rules_of_lines};
 ghost use Rattle.deskolem.specs.View.{names_of};
 ghost use Rattle.deskolem.specs.Sums.{Adds, AddsFills, AreLengths, closed_fills, most_counted, split_of};
+ghost use Rattle.gs3_text.specs.declared.limit.TheConstants.{MAX_PROOF_BYTES};
 
 use crate::answer::GsError;
 use crate::count::{Count, MOST_COUNTED, add, digits};
@@ -41,7 +42,7 @@ fn add_gamma(
     noted: &mut Extents,
 ) -> Result<Count, GsError>
     requires so_far { so_far.bytes ≤ limit }
-    requires limit { limit ≤ 134217728 }
+    requires limit { limit ≤ MAX_PROOF_BYTES }
     requires noted { AreMeasured (offer_of offer.now) lengths.now most_counted noted.old }
     ensures noted { IfOk result (λ _. AreMeasured (offer_of offer.now) lengths.now most_counted noted.new) }
     ensures fits { IfOk result (λ c. c.bytes ≤ limit) }
@@ -67,7 +68,7 @@ fn add_fill(
     noted: &mut Extents,
 ) -> Result<Count, GsError>
     requires so_far { so_far.bytes ≤ limit }
-    requires limit { limit ≤ 134217728 }
+    requires limit { limit ≤ MAX_PROOF_BYTES }
     requires noted { AreMeasured (offer_of offer.now) lengths.now most_counted noted.old }
     ensures noted { IfOk result (λ _. AreMeasured (offer_of offer.now) lengths.now most_counted noted.new) }
     ensures fits { IfOk result (λ c. c.bytes ≤ limit) }
@@ -90,7 +91,7 @@ fn add_fills(
     noted: &mut Extents,
 ) -> Result<Opened, GsError>
     requires so_far { so_far.bytes ≤ limit }
-    requires limit { limit ≤ 134217728 }
+    requires limit { limit ≤ MAX_PROOF_BYTES }
     requires within { IsWithin rewriting.now }
     requires noted { AreMeasured (offer_of offer.now) lengths.now most_counted noted.old }
     ensures noted { IfOk result (λ _. AreMeasured (offer_of offer.now) lengths.now most_counted noted.new) }
@@ -128,7 +129,7 @@ fn add_rewriting(
     noted: &mut Extents,
 ) -> Result<Count, GsError>
     requires so_far { so_far.bytes ≤ limit }
-    requires limit { limit ≤ 134217728 }
+    requires limit { limit ≤ MAX_PROOF_BYTES }
     requires within { IsWithin rewriting.now }
     requires noted { AreMeasured (offer_of offer.now) lengths.now most_counted noted.old }
     ensures noted { IfOk result (λ _. AreMeasured (offer_of offer.now) lengths.now most_counted noted.new) }
@@ -147,7 +148,7 @@ fn add_rewriting(
 /// negated.
 fn add_split(opened: Opened, rewriting: &Rewriting, limit: u64) -> Result<Count, GsError>
     requires count { opened.count.bytes ≤ limit }
-    requires limit { limit ≤ 134217728 }
+    requires limit { limit ≤ MAX_PROOF_BYTES }
     requires within { IsWithin rewriting.now }
     ensures fits { IfOk result (λ c. c.bytes ≤ limit) }
     ensures sum { (fs : List Symbol) → Adds fs opened.count (split_of opened.place rewriting.now) limit result }
@@ -181,7 +182,7 @@ fn add_line(
     noted: &mut Extents,
 ) -> Result<Count, GsError>
     requires so_far { so_far.bytes ≤ limit }
-    requires limit { limit ≤ 134217728 }
+    requires limit { limit ≤ MAX_PROOF_BYTES }
     requires room { HasRoom line.now }
     requires noted { AreMeasured (offer_of offer.now) lengths.now most_counted noted.old }
     ensures noted { IfOk result (λ _. AreMeasured (offer_of offer.now) lengths.now most_counted noted.new) }
@@ -222,7 +223,7 @@ pub(crate) fn measure_lines(
     lines: &[Line],
     limit: u64,
 ) -> Result<Count, GsError>
-    requires limit { limit ≤ 134217728 }
+    requires limit { limit ≤ MAX_PROOF_BYTES }
     requires room { AllByRecursion HasRoom lines.now }
     ensures { (fs : List Symbol) → AreLengths fs (names_of names.now) lengths.now
         → Adds fs (record { bytes = 6; depth = 0 })

@@ -12,6 +12,7 @@ ghost use Rattle.deskolem.specs.Answer.{Answers, AreBuilt, AreChecked};
 ghost use Rattle.deskolem.specs.Lines.{HasRoom, rules_of_lines, symbols_of};
 ghost use Rattle.deskolem.specs.View.{names_of};
 ghost use Rattle.deskolem.specs.Walking.{ListsSteps};
+ghost use Rattle.gs3_text.specs.declared.limit.TheConstants.{MAX_PROOF_BYTES};
 
 use crate::answer::GsError;
 use crate::build::{parameters_of, steps_of};
@@ -44,7 +45,7 @@ fn start_len(problem: &Problem) -> u32
 
 /// How many steps there may be in a text within the limit: more of them take more bytes.
 fn most_steps(limit: u64) -> u32
-    requires { limit ≤ 134217728 }
+    requires { limit ≤ MAX_PROOF_BYTES }
     ensures enough { limit < 6 * result + 12 }
     ensures few { 6 * result ≤ limit }
 {
@@ -58,7 +59,7 @@ fn lines_of(
     tree: &ClosedTree,
     most: u32,
 ) -> Result<Lines, GsError>
-    requires { 6 * most ≤ 134217728 }
+    requires { 6 * most ≤ MAX_PROOF_BYTES }
     ensures lines { ListsSteps (plain_problem problem.now) (closed_tree_of tree.now) most result }
     ensures room { IfOk result (λ lines. AllByRecursion HasRoom lines) }
 {
@@ -86,7 +87,7 @@ fn check_limits(
     lines: &[Line],
     limit: u64,
 ) -> Result<(), GsError>
-    requires limit { limit ≤ 134217728 }
+    requires limit { limit ≤ MAX_PROOF_BYTES }
     requires room { AllByRecursion HasRoom lines.now }
     ensures { AreChecked (plain_problem problem.now).symbols.functions
         (rules_of_lines (offer_of s.now) (names_of names.now) lines.now) limit result }
@@ -110,7 +111,7 @@ fn build_lines(
     lines: &[Line],
     limit: u64,
 ) -> Result<Steps, GsError>
-    requires limit { limit ≤ 134217728 }
+    requires limit { limit ≤ MAX_PROOF_BYTES }
     requires room { AllByRecursion HasRoom lines.now }
     ensures { AreBuilt (plain_problem problem.now).symbols.functions
         (rules_of_lines (offer_of s.now) (symbols_of lines.now) lines.now) limit result }
@@ -136,7 +137,7 @@ pub fn to_gs3(
 ) -> Result<Tree, GsError>
     requires closed { IsClosedRound (plain_problem round.now.problem) (rules_in round.now.rules) round.now.depth
         (offer_of s.now) (closed_tree_of tree.now) }
-    requires limit { limit ≤ 134217728 }
+    requires limit { limit ≤ MAX_PROOF_BYTES }
     ensures { Answers (plain_problem round.now.problem) limit
         (translation (plain_problem round.now.problem) (rules_in round.now.rules) (offer_of s.now)
         (closed_tree_of tree.now)) result }

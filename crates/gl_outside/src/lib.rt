@@ -7,6 +7,7 @@ mod memory;
 mod shelf;
 mod sink;
 mod sound;
+mod words;
 
 pub use files::Files;
 pub use host::{HostShelf, HostSink};
@@ -14,3 +15,4 @@ pub use memory::{MemoryShelf, MemorySink};
 pub use shelf::{FetchError, Shelf};
 pub use sink::{Sink, SinkFailed};
 pub use sound::{SoundShelf, SoundSink};
+pub use words::command_words;

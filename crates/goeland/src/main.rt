@@ -6,11 +6,9 @@ ghost use Rattle.std.specs.Process.{exit_status};
 ghost use Rattle.goeland_run.specs.Run.{exit_of};
 
 use deepening::Kept;
-use gl_outside::{HostShelf, HostSink};
+use gl_outside::{HostShelf, HostSink, command_words};
 use goeland_run::{Status, run};
 use pool_run::gate::Gate;
-use std::env;
-use std::io::{self, ErrorKind};
 use std::process::ExitCode;
 
 /// A gate that holds nobody up.
@@ -35,18 +33,10 @@ fn exit_code(status: Status) -> ExitCode
     }
 }
 
-/// The words after the command's name.
-fn command_words(rt: &HostRuntime) -> io::Result<Vec<String>> {
-    Ok(env::args(rt)?.skip(1).collect(rt.alloc())?)
-}
-
 fn main(rt: HostRuntime) -> ExitCode {
     let alloc = rt.alloc();
-    let words = match command_words(&rt) {
-        Ok(words) => words,
-        // A word that is no text is none that the command takes.
-        Err(error) if error.kind() == ErrorKind::InvalidData => Vec::new(alloc),
-        Err(_) => return exit_code(Status::OutOfMemory),
+    let Ok(words) = command_words(&rt) else {
+        return exit_code(Status::OutOfMemory);
     };
     let mut shelf = HostShelf::new(&rt);
     let mut out = HostSink::new(&rt);

@@ -1,6 +1,6 @@
 -- What the outside of a run was before, and is after.
-use Rattle.std.specs.Prelude.{◌≡◌, ◌⊎◌, ℕ, List, Option}
-use Rattle.gl_outside.specs.Outside.{HasRisen, Appends, AppendsFront}
+use Rattle.std.specs.Prelude.{◌≡◌, ℕ, List, Option}
+use Rattle.gl_outside.specs.Outside.{Puts}
 use Rattle.goeland_run.specs.declared.status.Status.{Status}
 use Rattle.goeland_run.specs.declared.status.Status.TheVariants.{WriteFault}
 
@@ -27,7 +27,4 @@ IsUntouched w = (w.written_after ≡ w.written) × (w.unwritten_after ≡ w.unwr
 
 -- The text was written whole, and the status is the one that belongs to it; or some front of it was, and a fault came.
 abbrev pub Prints : Writing → List ℕ → Status → Status → Type 0
-Prints w text usual status =
-    ((status ≡ usual) × Appends w.written text w.written_after × (w.unwritten_after ≡ w.unwritten))
-    ⊎ ((status ≡ WriteFault) × AppendsFront w.written text w.written_after
-    × HasRisen w.unwritten w.unwritten_after)
+Prints w text usual = Puts w.written text w.written_after w.unwritten w.unwritten_after usual WriteFault

@@ -1,7 +1,7 @@
 //! What a run decides.
 
 ghost use Rattle.std.specs.Prelude.{◌≡◌, ℕ, List, IfOk, OnErr};
-ghost use Rattle.goeland_words.specs.Words.{texts_of};
+ghost use Rattle.gl_outside.specs.Outside.{texts_of};
 ghost use Rattle.goeland_run.specs.Deciding.{Decides};
 ghost use Rattle.goeland_run.specs.declared.ways.Threading.TheVariants as threadings;
 

@@ -1,7 +1,7 @@
 //! What a run has to do, from its words and the bytes that they name.
 
 ghost use Rattle.std.specs.Prelude.{◌≡◌, ◌≤◌, ℕ, List, None, IfOk, OnErr};
-ghost use Rattle.goeland_words.specs.Words.{texts_of};
+ghost use Rattle.gl_outside.specs.Outside.{texts_of};
 ghost use Rattle.fof_parse.specs.Lines.{refusal_line};
 ghost use Rattle.fof_parse.specs.ProblemView.{plain_problem};
 ghost use Rattle.deepening.specs.RoundEnds.{AreLimits};

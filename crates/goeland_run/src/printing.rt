@@ -1,8 +1,7 @@
 //! A run, from its words to what is printed.
 
 ghost use Rattle.std.specs.Prelude.{◌≡◌, ℕ, List, OnOk, OnErr};
-ghost use Rattle.gl_outside.specs.Outside.{HasRisen, Appends, AppendsFront};
-ghost use Rattle.goeland_words.specs.Words.{texts_of};
+ghost use Rattle.gl_outside.specs.Outside.{HasRisen, Appends, AppendsFront, texts_of};
 ghost use Rattle.goeland_run.specs.Outside.{Prints};
 ghost use Rattle.goeland_run.specs.PrintedText.{printed_text};
 ghost use Rattle.deepening.specs.Kept.{IsEmpty};

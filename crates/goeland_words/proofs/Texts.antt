@@ -12,7 +12,8 @@ use Rattle.goeland_words.specs.Table.{Text, place, text_in, prove_table, bench_t
 use Rattle.goeland_words.specs.Line.{Line, Writes, Setting, settings_of, setting_value}
 use Rattle.goeland_words.specs.Parsed.{HoldsLine, HasProveTexts, HasBenchTexts, IsProveLine, IsBenchLine}
 use Rattle.goeland_words.specs.Values.{IsProve, IsBench}
-use Rattle.goeland_words.specs.Words.{IsCommand, texts_of}
+use Rattle.goeland_words.specs.Words.{IsCommand}
+use Rattle.gl_outside.specs.Outside.{texts_of}
 use Rattle.goeland_words.specs.declared.command.ProveTexts.{ProveTexts}
 use Rattle.goeland_words.specs.declared.command.BenchTexts.{BenchTexts}
 use Rattle.goeland_words.specs.declared.prove.ProveWords.{ProveWords}

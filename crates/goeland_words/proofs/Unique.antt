@@ -6,7 +6,8 @@ use Rattle.goeland_words.specs.Line.{Writes, Setting, settings_of, setting_value
 use Rattle.goeland_words.specs.Numbers.{IsNumberIn, IsNumberOr}
 use Rattle.goeland_words.specs.Values.{IsFile, IsTries, IsRewrite, IsSchedule, IsProblem, IsProve, switch_word}
 use Rattle.goeland_words.specs.Words.{IsCommand}
-use Rattle.goeland_words.specs.declared.limits.TheConstants.{MAX_DEPTH, DEFAULT_DEPTH, MAX_WORKERS, DEFAULT_WORKERS, MAX_TRIES, MAX_PROOF_BYTES, DEFAULT_PROOF_BYTES}
+use Rattle.goeland_words.specs.declared.limits.TheConstants.{MAX_DEPTH, DEFAULT_DEPTH, MAX_WORKERS, DEFAULT_WORKERS, MAX_TRIES, DEFAULT_PROOF_BYTES}
+use Rattle.gs3_text.specs.declared.limit.TheConstants.{MAX_PROOF_BYTES}
 use Rattle.goeland_words.specs.declared.prove.Schedule.{Schedule}
 use Rattle.goeland_words.specs.declared.prove.ProveWords.{ProveWords}
 use Rattle.goeland_words.specs.declared.words.Command.{Command}

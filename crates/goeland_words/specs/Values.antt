@@ -5,7 +5,8 @@ use Rattle.goeland_words.specs.Table.{Text, place}
 use Rattle.goeland_words.specs.Line.{Setting, setting_value}
 use Rattle.goeland_words.specs.Numbers.{IsNumberIn, IsNumberOr}
 use Rattle.goeland_words.specs.declared.limits.TheConstants.{MAX_DEPTH, DEFAULT_DEPTH, MAX_WORKERS, DEFAULT_WORKERS}
-use Rattle.goeland_words.specs.declared.limits.TheConstants.{MAX_TRIES, MAX_PROOF_BYTES, DEFAULT_PROOF_BYTES}
+use Rattle.goeland_words.specs.declared.limits.TheConstants.{MAX_TRIES, DEFAULT_PROOF_BYTES}
+use Rattle.gs3_text.specs.declared.limit.TheConstants.{MAX_PROOF_BYTES}
 use Rattle.goeland_words.specs.declared.limits.TheConstants.{MAX_SEED, MAX_TURNS, MAX_PROBLEM}
 use Rattle.goeland_words.specs.declared.prove.Schedule.{Schedule}
 use Rattle.goeland_words.specs.declared.prove.ProveWords.{ProveWords}

@@ -1,6 +1,5 @@
 -- The command of the words.
-use Rattle.std.specs.Prelude.{◌≡◌, List, ◌∷◌, map, codes, String}
-use Rattle.std.specs.String.{string_bytes}
+use Rattle.std.specs.Prelude.{◌≡◌, List, ◌∷◌, codes}
 use Rattle.goeland_words.specs.Table.{Text, Table, prove_table, bench_table}
 use Rattle.goeland_words.specs.Line.{Line, Writes, Setting, settings_of}
 use Rattle.goeland_words.specs.Values.{IsProve, IsBench}
@@ -22,7 +21,3 @@ IsCommand words (Bench n workers) = Asks (codes "bench") bench_table (λ s. IsBe
 -- The words ask for nothing.
 abbrev pub IsNoCommand : List Text → Type 0
 IsNoCommand words = (c : Command) → IsCommand words c → ⊥
-
--- the words of the program as texts
-abbrev pub texts_of : {Z : Type 0} → List (String Z) → List Text
-texts_of words = map string_bytes words

@@ -8,7 +8,7 @@ ghost use Rattle.goeland_words.specs.Table.{prove_table, bench_table};
 ghost use Rattle.goeland_words.specs.Line.{IsNoLine};
 ghost use Rattle.goeland_words.specs.Command.{value_rule, switch_rule, place_rule, bare_app, app_of_table};
 ghost use Rattle.goeland_words.specs.Parsed.{Takes, Refuses, HoldsLine, IsProveLine, IsBenchLine};
-ghost use Rattle.goeland_words.specs.Words.{texts_of};
+ghost use Rattle.gl_outside.specs.Outside.{texts_of};
 
 use clap::error::ErrorKind;
 use clap::{Arg, ArgAction, ArgMatches, Command};

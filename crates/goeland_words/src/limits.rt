@@ -13,9 +13,6 @@ pub(crate) const DEFAULT_WORKERS: u64 = 4;
 /// The greatest limit of tries of a round.
 pub(crate) const MAX_TRIES: u64 = 1_000_000_000_000;
 
-/// The greatest limit of a proof's text, in bytes.
-pub(crate) const MAX_PROOF_BYTES: u64 = 134_217_728;
-
 pub(crate) const DEFAULT_PROOF_BYTES: u64 = 67_108_864;
 
 /// The greatest start of a schedule's generator.

@@ -2,17 +2,18 @@
 
 ghost use Rattle.std.specs.Prelude.{◌≡◌, ◌∷◌, codes, IfOk, IfErr, IfSome, IsNone};
 ghost use Rattle.goeland_words.specs.Parsed.{AskFor, AskForNothing, AskForProblem, AskForNoProblem};
-ghost use Rattle.goeland_words.specs.Words.{IsCommand, IsNoCommand, texts_of};
+ghost use Rattle.goeland_words.specs.Words.{IsCommand, IsNoCommand};
+ghost use Rattle.gl_outside.specs.Outside.{texts_of};
 
 use crate::command::{BenchTexts, ProveTexts, bench_line, prove_line};
 use crate::limits::{
-    DEFAULT_DEPTH, DEFAULT_PROOF_BYTES, DEFAULT_WORKERS, MAX_DEPTH, MAX_PROBLEM, MAX_PROOF_BYTES,
-    MAX_WORKERS,
+    DEFAULT_DEPTH, DEFAULT_PROOF_BYTES, DEFAULT_WORKERS, MAX_DEPTH, MAX_PROBLEM, MAX_WORKERS,
 };
 use crate::number::{number_in, number_or};
 use crate::prove::ProveWords;
 use crate::text::Text;
 use crate::values::{file_of, rewrite_of, schedule_of, tries_of};
+use gs3_text::MAX_PROOF_BYTES;
 use std::alloc::{AllocError, Global};
 use thiserror::Error;
 

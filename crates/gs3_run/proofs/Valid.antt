@@ -10,7 +10,8 @@ use Rattle.gs3_rules.proofs.Shapes.{refutation_shape}
 use Rattle.gs3_text.specs.ProofText.{IsSpellable, proof_lines, text_of}
 use Rattle.gs3_text.proofs.Names.{names_are_lines}
 use Rattle.gs3_text.proofs.Written.{written_text}
-use Rattle.gs3_run.specs.Run.{IsValid, ReadsProblem, FitsBoth, Prints, Ran, most_proof_bytes, status_of}
+use Rattle.gs3_run.specs.Run.{IsValid, ReadsProblem, FitsBoth, Prints, Ran, status_of}
+use Rattle.gs3_text.specs.declared.limit.TheConstants.{MAX_PROOF_BYTES}
 use Rattle.gs3_run.specs.Held.{HoldsProof, EndsValid}
 use Rattle.gs3_run.specs.declared.run.Report.{Report}
 use Rattle.gs3_run.specs.declared.run.Report.TheVariants.{Usage, TooLarge, Refused, TooLargeProof, ReadFault, Valid, Invalid}
@@ -37,13 +38,13 @@ same_names : (a b c d : List ℕ) → a ∷ b ∷ [] ≡ c ∷ d ∷ [] → (a �
 same_names a b c d e = (cc, cc)
 
 module _ (before after : ℕ) (problem_told proof_told : Option (List ℕ)) (problem_bytes proof_bytes : List ℕ) (problem : PlainProblem) (pe : problem_told ≡ Some problem_bytes) (qe : proof_told ≡ Some proof_bytes)
-    (is_text : IsProblemText problem_bytes problem) (within : length proof_bytes ≤ most_proof_bytes) (is_valid : IsValid problem proof_bytes) where
+    (is_text : IsProblemText problem_bytes problem) (within : length proof_bytes ≤ MAX_PROOF_BYTES) (is_valid : IsValid problem proof_bytes) where
   -- a report that fits is Valid, or a read fault
   pub fits_valid : (r : Report) → FitsBoth problem_told proof_told before after r → (r ≡ Valid) ⊎ ((r ≡ ReadFault) × HasRisen before after)
   fits_valid Usage f = absurd f
   fits_valid TooLarge f = absurd (omega (arith, told (λ b. most_bytes < length b) problem_told problem_bytes pe f.1, is_text.within))
   fits_valid (Refused text) f = absurd (f.1.none problem (subst (λ b. IsProblemText b problem) (sym (told (λ b. f.1.bytes ≡ b) problem_told problem_bytes pe f.1.are)) is_text))
-  fits_valid TooLargeProof f = absurd (omega (arith, told (λ b. most_proof_bytes < length b) proof_told proof_bytes qe f.2.1, within))
+  fits_valid TooLargeProof f = absurd (omega (arith, told (λ b. MAX_PROOF_BYTES < length b) proof_told proof_bytes qe f.2.1, within))
   fits_valid ReadFault f = inr (refl, f)
   fits_valid Valid f = inl refl
   fits_valid (Invalid text) f =

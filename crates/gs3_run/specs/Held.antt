@@ -3,7 +3,8 @@ use Rattle.std.specs.Prelude.{◌≡◌, ◌⊎◌, ℕ, ◌≤◌, List, Option
 use Rattle.gl_outside.specs.Outside.{HasRisen}
 use Rattle.fof_parse.specs.Problem.{PlainProblem}
 use Rattle.fof_parse.specs.TheProblem.{IsProblemText}
-use Rattle.gs3_run.specs.Run.{AreNames, IsValid, most_proof_bytes}
+use Rattle.gs3_run.specs.Run.{AreNames, IsValid}
+use Rattle.gs3_text.specs.declared.limit.TheConstants.{MAX_PROOF_BYTES}
 use Rattle.gs3_run.specs.declared.run.CheckStatus.{CheckStatus}
 use Rattle.gs3_run.specs.declared.run.CheckStatus.TheVariants as status
 
@@ -19,7 +20,7 @@ pub record HoldsProof (words : List (List ℕ)) (holds : List ℕ → Option (Li
   pub is_text : IsProblemText problem_bytes problem
   pub proof_bytes : List ℕ
   pub proof_told : holds proof_name ≡ Some proof_bytes
-  pub within : length proof_bytes ≤ most_proof_bytes
+  pub within : length proof_bytes ≤ MAX_PROOF_BYTES
   pub is_valid : IsValid problem proof_bytes
 
 -- The check ends as one of a proof: Valid, or memory was wanting, or the shelf or the sink failed.

@@ -1,22 +1,20 @@
 -- What a check of a proof answers, what it prints, and why.
-use Rattle.std.specs.Prelude.{◌≡◌, ◌≢◌, ◌⊎◌, ℕ, ◌<◌, ◌≤◌, List, [], ◌∷◌, ◌++◌, map, length, slice_get}
-use Rattle.std.specs.Prelude.{codes, decimal, Option, Some, IfSome, String, string_bytes}
-use Rattle.gl_outside.specs.Outside.{HasRisen, Appends, AppendsFront}
+use Rattle.std.specs.Prelude.{◌≡◌, ◌≢◌, ◌⊎◌, ℕ, ◌<◌, ◌≤◌, List, [], ◌∷◌, ◌++◌, length, slice_get}
+use Rattle.std.specs.Prelude.{codes, decimal, Option, Some, IfSome}
+use Rattle.gl_outside.specs.Outside.{HasRisen, Puts}
 use Rattle.fof_parse.specs.Problem.{PlainProblem, Start}
 use Rattle.fof_parse.specs.TheProblem.{most_bytes, IsTheProblem, IsNoProblem}
 use Rattle.fof_parse.specs.Lines.{IsRefusal}
 use Rattle.fol_core.specs.Symbol.{Symbol}
 use Rattle.gs3_rules.specs.Rules.{Rule}
 use Rattle.gs3_rules.specs.Refutes.{ProofTree, Refutes, FailsAt}
+use Rattle.gs3_text.specs.declared.limit.TheConstants.{MAX_PROOF_BYTES}
 use Rattle.gs3_text.specs.ProofText.{text_of, ProofText, IsReading, IsMalformedAt, step_lines}
 use Rattle.gs3_run.specs.declared.run.Report.{Report}
 use Rattle.gs3_run.specs.declared.run.Report.TheVariants.{Usage, TooLarge, Refused, TooLargeProof, ReadFault}
 use Rattle.gs3_run.specs.declared.run.Report.TheVariants.{Valid, Invalid}
 use Rattle.gs3_run.specs.declared.run.CheckStatus.{CheckStatus}
 use Rattle.gs3_run.specs.declared.run.CheckStatus.TheVariants as status
-
-abbrev pub words_of : {Z : Type 0} → List (String Z) → List (List ℕ)
-words_of words = map string_bytes words
 
 -- the name of the standard input
 abbrev pub standard_input : List ℕ
@@ -34,10 +32,6 @@ AreNoNames words = (problem proof : List ℕ) → AreNames words problem proof �
 
 abbrev pub HaveNames : List (List ℕ) → Type 0
 HaveNames words = (problem proof : List ℕ) × AreNames words problem proof
-
--- the most bytes of a proof
-abbrev pub most_proof_bytes : ℕ
-most_proof_bytes = 134217728
 
 -- what is printed of a proof that goes wrong or cannot go on at this line
 abbrev pub malformed_line : ℕ → List ℕ
@@ -141,7 +135,7 @@ pub record ReadsProblem (told : Option (List ℕ)) (problem : PlainProblem) : Ty
 pub record ReadsProof (problem : PlainProblem) (told : Option (List ℕ)) (r : Report) : Type 0 where
   pub bytes : List ℕ
   pub are : Tells told bytes
-  pub within : length bytes ≤ most_proof_bytes
+  pub within : length bytes ≤ MAX_PROOF_BYTES
   pub judged : Judges problem bytes r
 
 -- the bytes of a problem that is refused, and what is printed of them
@@ -158,7 +152,7 @@ abbrev pub FitsProof : PlainProblem → Option (List ℕ) → ℕ → ℕ → Re
 FitsProof problem told before after Usage = ⊥
 FitsProof problem told before after TooLarge = ⊥
 FitsProof problem told before after (Refused text) = ⊥
-FitsProof problem told before after TooLargeProof = (after ≡ before) × IfSome told (λ b. most_proof_bytes < length b)
+FitsProof problem told before after TooLargeProof = (after ≡ before) × IfSome told (λ b. MAX_PROOF_BYTES < length b)
 FitsProof problem told before after ReadFault = HasRisen before after
 FitsProof problem told before after Valid = (after ≡ before) × ReadsProof problem told Valid
 FitsProof problem told before after (Invalid text) = (after ≡ before) × ReadsProof problem told (Invalid text)
@@ -193,9 +187,7 @@ Fits words holds before after r =
 
 -- The report is printed whole, or the sink failed after some front of it.
 abbrev pub Prints : Report → Option (List ℕ) → Option (List ℕ) → ℕ → ℕ → CheckStatus → Type 0
-Prints r old new before after s =
-    ((s ≡ status_of r) × Appends old (output_of r) new × (after ≡ before))
-    ⊎ ((s ≡ status.WriteFault) × AppendsFront old (output_of r) new × HasRisen before after)
+Prints r old new before after = Puts old (output_of r) new before after (status_of r) status.WriteFault
 
 -- A check with these words: its report is as it has to be, and is printed. Want of memory comes only with the names of
 -- a problem and a proof; then nothing was written, and no fault came.

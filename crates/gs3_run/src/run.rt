@@ -7,7 +7,8 @@ ghost use Rattle.fof_parse.specs.Problem.{PlainProblem, Start};
 ghost use Rattle.fof_parse.specs.ProblemView.{plain_problem};
 ghost use Rattle.fof_parse.specs.Refused.{Refuses};
 ghost use Rattle.fof_parse.specs.TheProblem.{most_bytes, IsNoProblem};
-ghost use Rattle.gs3_run.specs.Run.{words_of, AreNames, AreNoNames, HaveNames, output_of, status_of};
+ghost use Rattle.gl_outside.specs.Outside.{texts_of};
+ghost use Rattle.gs3_run.specs.Run.{AreNames, AreNoNames, HaveNames, output_of, status_of};
 ghost use Rattle.gs3_run.specs.Run.{WasRead, Judges, RefusesText, FitsProof, FitsBoth, Fits, Prints, Ran};
 ghost use Rattle.gs3_rules.specs.Apply.{rules_of};
 ghost use Rattle.gs3_text.specs.Answer.{IsRefused};
@@ -17,12 +18,9 @@ use fof_parse::{MAX_BYTES, Problem, ReadError, into_start_list, read_problem, re
 use fol_core::{Formulas, Symbols};
 use gl_outside::{FetchError, Shelf, Sink, SinkFailed};
 use gs3_kernel::{CheckError, check_steps};
-use gs3_text::{ReadTree, TextError, read_tree};
+use gs3_text::{MAX_PROOF_BYTES, ReadTree, TextError, read_tree};
 use itoa::Buffer;
 use std::alloc::{AllocError, Global};
-
-/// The longest text of a proof, in bytes.
-const MAX_PROOF_BYTES: u64 = 134_217_728;
 
 /// How a check ended.
 #[derive(Clone, Copy, Debug, PartialEq, Eq)]
@@ -201,8 +199,8 @@ fn report_both<S: Shelf>(
 
 /// The names of the problem and of the proof.
 fn names_of(words: &[String]) -> Option<(&str, &str)>
-    ensures { MatchOption result (AreNoNames (words_of words.now))
-        (λ n. AreNames (words_of words.now) n.0.now n.1.now) }
+    ensures { MatchOption result (AreNoNames (texts_of words.now))
+        (λ n. AreNames (texts_of words.now) n.0.now n.1.now) }
 {
     let [problem, proof] = words else {
         return None;
@@ -219,9 +217,9 @@ fn names_of(words: &[String]) -> Option<(&str, &str)>
 
 /// The report of a check.
 fn decide<S: Shelf>(alloc: Global, words: &[String], shelf: &mut S) -> Result<Report, AllocError>
-    ensures fits { IfOk result (Fits (words_of words.now) (S.holds shelf.old)
+    ensures fits { IfOk result (Fits (texts_of words.now) (S.holds shelf.old)
         (S.faults shelf.old) (S.faults shelf.new)) }
-    ensures err { OnErr result ((S.faults shelf.new ≡ S.faults shelf.old) × HaveNames (words_of words.now)) }
+    ensures err { OnErr result ((S.faults shelf.new ≡ S.faults shelf.old) × HaveNames (texts_of words.now)) }
     ensures kept { (other : List ℕ) → S.holds shelf.new other ≡ S.holds shelf.old other }
 {
     match names_of(words) {
@@ -278,7 +276,7 @@ pub fn check_run<S: Shelf, K: Sink>(
     shelf: &mut S,
     out: &mut K,
 ) -> CheckStatus
-    ensures ran { Ran (words_of words.now) (S.holds shelf.old) (S.faults shelf.old) (S.faults shelf.new)
+    ensures ran { Ran (texts_of words.now) (S.holds shelf.old) (S.faults shelf.old) (S.faults shelf.new)
         (K.written out.old) (K.written out.new) (K.faults out.old) (K.faults out.new) result }
     ensures kept { (other : List ℕ) → S.holds shelf.new other ≡ S.holds shelf.old other }
 {

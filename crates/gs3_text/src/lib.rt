@@ -3,6 +3,7 @@
 
 mod fault;
 mod law;
+mod limit;
 mod reading;
 mod scan;
 mod spelling;
@@ -14,6 +15,7 @@ mod word;
 mod writing;
 
 pub use law::one_tree;
+pub use limit::MAX_PROOF_BYTES;
 pub use reading::{ReadTree, TextError, read_tree};
 pub use scan::Lines;
 pub use tree::{Tree, tree_of};

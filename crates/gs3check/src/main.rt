@@ -5,10 +5,8 @@ ghost use Rattle.std.specs.Prelude.{◌≡◌};
 ghost use Rattle.std.specs.Process.{exit_status};
 ghost use Rattle.gs3_run.specs.Run.{exit_of};
 
-use gl_outside::{HostShelf, HostSink};
+use gl_outside::{HostShelf, HostSink, command_words};
 use gs3_run::{CheckStatus, check_run};
-use std::env;
-use std::io::{self, ErrorKind};
 use std::process::ExitCode;
 
 /// The exit code that tells how a check ended.
@@ -26,18 +24,10 @@ fn exit_code(status: CheckStatus) -> ExitCode
     }
 }
 
-/// The words after the command's name.
-fn command_words(rt: &HostRuntime) -> io::Result<Vec<String>> {
-    Ok(env::args(rt)?.skip(1).collect(rt.alloc())?)
-}
-
 fn main(rt: HostRuntime) -> ExitCode {
     let alloc = rt.alloc();
-    let words = match command_words(&rt) {
-        Ok(words) => words,
-        // A word that is no text is no name that the command takes.
-        Err(error) if error.kind() == ErrorKind::InvalidData => Vec::new(alloc),
-        Err(_) => return exit_code(CheckStatus::OutOfMemory),
+    let Ok(words) = command_words(&rt) else {
+        return exit_code(CheckStatus::OutOfMemory);
     };
     let mut shelf = HostShelf::new(&rt);
     let mut out = HostSink::new(&rt);

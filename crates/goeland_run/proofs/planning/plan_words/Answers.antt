@@ -1,5 +1,5 @@
 use Rattle.std.proofs.Common.{refl}
-use Rattle.goeland_words.specs.Words.{texts_of}
+use Rattle.gl_outside.specs.Outside.{texts_of}
 use Rattle.goeland_run.proofs.Answered.{words_refused, benched}
 use Rattle.goeland_run.proofs.planning.plan_words.Goals as goal
 

@@ -1,4 +1,4 @@
-use Rattle.goeland_words.specs.Words.{texts_of}
+use Rattle.gl_outside.specs.Outside.{texts_of}
 use Rattle.goeland_run.specs.declared.ways.Threading.TheVariants as threadings
 use Rattle.goeland_run.proofs.Plans.{ran}
 use Rattle.goeland_run.proofs.printing.run_alone.Goals as goal

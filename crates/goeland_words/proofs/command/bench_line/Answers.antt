@@ -2,7 +2,7 @@ use Rattle.std.proofs.Common.{subst, Option, IfSome}
 use Rattle.clap.specs.declared.parser.matches.ArgMatches.{ArgMatches}
 use Rattle.goeland_words.specs.Table.{bench_table}
 use Rattle.goeland_words.specs.Parsed.{HoldsLine}
-use Rattle.goeland_words.specs.Words.{texts_of}
+use Rattle.gl_outside.specs.Outside.{texts_of}
 use Rattle.goeland_words.proofs.Texts.{bench_texts}
 use Rattle.goeland_words.proofs.command.bench_line.Goals as goal
 

@@ -1,6 +1,6 @@
 use Rattle.std.proofs.Common.{subst, Option, IfSome, refl}
 use Rattle.goeland_words.specs.Parsed.{IsBenchLine}
-use Rattle.goeland_words.specs.Words.{texts_of}
+use Rattle.gl_outside.specs.Outside.{texts_of}
 use Rattle.goeland_words.specs.declared.command.BenchTexts.{BenchTexts}
 use Rattle.goeland_words.proofs.Texts.{bench_none}
 use Rattle.goeland_words.proofs.words.read_bench.Goals as goal

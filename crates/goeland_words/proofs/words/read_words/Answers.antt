@@ -1,6 +1,7 @@
 use Rattle.std.proofs.Common.{◌∙◌, sym, subst, List, IfOk, codes}
 use Rattle.goeland_words.specs.Table.{Text}
-use Rattle.goeland_words.specs.Words.{IsCommand, texts_of}
+use Rattle.goeland_words.specs.Words.{IsCommand}
+use Rattle.gl_outside.specs.Outside.{texts_of}
 use Rattle.goeland_words.proofs.Texts.{starts}
 use Rattle.goeland_words.proofs.Unique.{only_of}
 use Rattle.goeland_words.proofs.words.read_words.Goals as goal
