@@ -85,7 +85,7 @@ module _ (seed turns : ℕ) (round : RoundValue) where
 
 -- how many tries a pool has
 abbrev pub pool_limit : Limits → ℕ
-pool_limit limits = unwrap_or limits.tries 100000
+pool_limit limits = unwrap_or limits.tries 1000000
 
 -- A pool with so many tries worked on the round. Each history is a run of the machine.
 pub record IsPoolRun (limit : ℕ) (round : RoundValue) (run : RoundRun) : Type 0 where

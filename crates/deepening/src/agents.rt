@@ -141,7 +141,7 @@ pub(crate) fn settle_together<G: Gate, R: Threads + Wait + Sync>(
         round: round.copy()?,
         alloc,
     };
-    let most = limits.tries.unwrap_or(100_000);
+    let most = limits.tries.unwrap_or(1_000_000);
     let run = pool_of::<Brand, G, R>(rt, alloc, &field, workers, most, gate)?;
     match worth_of(alloc, round.get(), run.end(), limits)? {
         Worth::Proof(steps) => Ok(pooled_round(round.get(), run, Some(Ending::Found(steps)))),

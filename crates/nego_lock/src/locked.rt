@@ -11,7 +11,7 @@ use nego_node::moves::Move;
 use nego_node::node::NodeState;
 use std::marker::{Model, PhantomData};
 use std::sync::atomic::Ordering::SeqCst;
-use std::sync::atomic::{AtomicIn, Rule};
+use std::sync::atomic::{AtomicIn, AtomicU64, Rule};
 use std::sync::ledger::Ledger;
 use std::sync::{Mutex, Wait};
 use step_book::{Book, Share};
@@ -109,10 +109,11 @@ impl<F: Field, K: Key<F>> Tied<F, K> {
     }
 }
 
-/// A node's state behind its lock.
+/// A node's state behind its lock, and how many came to the node since nobody stayed there.
 #[derive(Drop)]
 pub struct LockedNode<F: Field, K: Key<F>> {
     inner: Mutex<Tied<F, K>>,
+    visitors: AtomicU64,
 }
 
 impl<F: Field, K: Key<F>> LockedNode<F, K> {
@@ -125,6 +126,22 @@ impl<F: Field, K: Key<F>> LockedNode<F, K> {
                 state,
                 of: PhantomData,
             }),
+            visitors: AtomicU64::new(0),
+        }
+    }
+
+    /// Counts one who came, and answers whether it is the one who stays: where another stays already, that one sees to
+    /// what came. It takes no memory, and what it answers is not seen from outside.
+    pub fn arrive(&self) -> bool {
+        self.visitors.fetch_add(1, SeqCst) == 0
+    }
+
+    /// Lets the one who stays go, who has seen that many come. Where more came it stays, and the error is their number.
+    /// It takes no memory, and what it answers is not seen from outside.
+    pub fn leave(&self, seen: u64) -> Result<(), u64> {
+        match self.visitors.compare_exchange(seen, 0, SeqCst, SeqCst) {
+            Ok(_) => Ok(()),
+            Err(more) => Err(more),
         }
     }
 
@@ -132,7 +149,7 @@ impl<F: Field, K: Key<F>> LockedNode<F, K> {
     pub fn take_history(self) -> NodeState<F>
         ensures { K.tree ≡ Some (F.around result.site) }
     {
-        let LockedNode { inner } = self;
+        let LockedNode { inner, visitors: _ } = self;
         let Tied { state, of: _ } = inner.into_inner();
         state
     }

@@ -13,13 +13,13 @@ use step_book::{Share, Shares};
 /// How many entries a deque has room for at first.
 const FIRST_ROOM: usize = 64;
 
-/// A deque for each worker.
+/// A deque for each worker, who takes from it what it queued last, while the others take what was queued first.
 fn owners<F: Field, K: Key<F>>(alloc: Global, workers: u32) -> Result<Vec<Own<F, K>>, AllocError>
     ensures { IfOk result (λ v. vec_len v ≡ workers) }
 {
     let mut all = Vec::new(alloc);
     for i in 0..workers {
-        all.push(Own::fifo_as(alloc, FIRST_ROOM)?)?;
+        all.push(Own::lifo_as(alloc, FIRST_ROOM)?)?;
     }
     Ok(all)
 }

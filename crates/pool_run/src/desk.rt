@@ -39,17 +39,29 @@ impl<F: Field, K: Key<F>> Thief<F, K> {
     }
 }
 
-/// The deque of one worker, and its passes to those of the others.
+/// The deque of one worker, its passes to those of the others, and a task that it queues only once it leaves the node
+/// that gave it.
 #[derive(Drop)]
 pub(crate) struct Desk<F: Field, K: Key<F>> {
     own: Own<F, K>,
     others: Vec<Thief<F, K>>,
+    put_off: Option<Entry<F, K>>,
+}
+
+/// Whether it is the other part's turn, where one part's task and the other's ban so many offers. A part's task bans
+/// those of its own that failed: after 2, 4, 8, .. of them the other part has a turn.
+fn is_due(first: usize, other: usize) -> bool {
+    first >> other.min(63) > 1
 }
 
 impl<F: Field, K: Key<F>> Desk<F, K> {
     /// A desk of this deque and these passes.
     pub(crate) fn new(own: Own<F, K>, others: Vec<Thief<F, K>>) -> Desk<F, K> {
-        Desk { own, others }
+        Desk {
+            own,
+            others,
+            put_off: None,
+        }
     }
 
     /// Puts an entry into its own deque. The error is want of memory, and drops the entry.
@@ -57,6 +69,30 @@ impl<F: Field, K: Key<F>> Desk<F, K> {
         match self.own.push_as::<Put>(entry) {
             Ok(()) => Ok(()),
             Err(_) => Err(AllocError),
+        }
+    }
+
+    /// Queues a task for a part, or puts it off for the other part's. Of two tasks the first is queued last, and so is
+    /// taken first, unless it is the other's turn. The error is want of memory, and drops what it was to queue.
+    pub(crate) fn put_task(&mut self, task: Entry<F, K>) -> Result<(), AllocError> {
+        let Some(first) = self.put_off.take() else {
+            self.put_off = Some(task);
+            return Ok(());
+        };
+        if is_due(first.banned(), task.banned()) {
+            self.put(first)?;
+            self.put(task)
+        } else {
+            self.put(task)?;
+            self.put(first)
+        }
+    }
+
+    /// Queues the task that was put off. The error is want of memory, and drops the task.
+    pub(crate) fn put_rest(&mut self) -> Result<(), AllocError> {
+        match self.put_off.take() {
+            Some(task) => self.put(task),
+            None => Ok(()),
         }
     }
 

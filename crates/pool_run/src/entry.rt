@@ -1,6 +1,6 @@
 //! What stands in a deque.
 
-ghost use Rattle.std.specs.Prelude.{◌≡◌, Some, None, IfSome};
+ghost use Rattle.std.specs.Prelude.{◌≡◌, Some};
 ghost use Rattle.nego_lock.specs.Visits.{MessageBelongs};
 
 use nego_laws::field::{Field, Offer};
@@ -13,7 +13,7 @@ use std::marker::{Model, PhantomData};
 #[derive(Drop)]
 pub(crate) struct Entry<F: Field, K: Key<F>> {
     node: u128,
-    message: Option<Message<F>>,
+    message: Message<F>,
     of: PhantomData<K>,
 }
 
@@ -28,35 +28,32 @@ impl<F: Field, K: Key<F>> Model for Entry<F, K> {
 }
 
 impl<F: Field, K: Key<F>> Entry<F, K> {
-    /// A visit that brings nothing.
-    pub(crate) fn bare(node: u128) -> Entry<F, K>
-        ensures { result ≡ record { node = node; message = None } }
-    {
-        Entry {
-            node,
-            message: None,
-            of: PhantomData,
-        }
-    }
-
     /// A visit that brings a message.
     pub(crate) fn bringing(_field: &F, node: u128, message: Message<F>) -> Entry<F, K>
         requires key { K.tree ≡ Some (F.tree _field.now) }
         requires message { MessageBelongs F.Offer.tree (F.tree _field.now) message }
-        ensures { result ≡ record { node = node; message = Some message } }
+        ensures { result ≡ record { node = node; message = message } }
     {
         Entry {
             node,
-            message: Some(message),
+            message,
             of: PhantomData,
         }
     }
 
+    /// How many offers the task that it brings bans, or 0 where it brings an answer.
+    pub(crate) fn banned(&self) -> usize {
+        match &self.message {
+            Message::Task(task) => task.get().ban.as_slice().len(),
+            Message::Answer(_, _) => 0,
+        }
+    }
+
     /// The node, and what is brought to it.
-    pub(crate) fn into_parts(self, _field: &F) -> (u128, Option<Message<F>>)
+    pub(crate) fn into_parts(self, _field: &F) -> (u128, Message<F>)
         requires key { K.tree ≡ Some (F.tree _field.now) }
         ensures parts { (result.0 ≡ self.node) × (result.1 ≡ self.message) }
-        ensures belongs { IfSome result.1 (MessageBelongs F.Offer.tree (F.tree _field.now)) }
+        ensures belongs { MessageBelongs F.Offer.tree (F.tree _field.now) result.1 }
     {
         let Entry {
             node,

@@ -20,6 +20,7 @@ use nego_node::node::NodeState;
 use nego_node::tasks::{Offers, Task};
 use std::alloc::{AllocError, Global};
 use std::marker::Brand;
+use std::sync::atomic::AtomicU64;
 use std::sync::ledger::{Blank, Ledger};
 use std::sync::{Mutex, Wait};
 use std::thread::Threads;
@@ -103,6 +104,7 @@ fn negotiate_in<
     let root = LockedNode::<F, K>::new(root_node(alloc, field, round)?);
     let directory = Directory::new(alloc);
     let stop = StopFlag::new();
+    let pause = AtomicU64::new(0);
     let desks = desks::<F, K>(alloc, workers)?;
     let mut taken = take_shares(alloc, &mut shares)?;
     begin_work(rt, alloc, field, round, desks.as_slice())?;
@@ -115,6 +117,7 @@ fn negotiate_in<
         root: &root,
         directory: &directory,
         stop: &stop,
+        pause: &pause,
         book: &book,
         desks: desks.as_slice(),
     };
