@@ -1,5 +1,7 @@
 -- A branch of the tableau: the steps done on it, and what is read off them.
-use Rattle.std.specs.Prelude.{◌≡◌, ℕ, zero, suc, ◌+◌, ◌*◌, Bool, true, false, ◌||◌, ◌&&◌, eqb, nat_le, nat_lt, if◌then◌else◌, List, [], ◌∷◌, ◌++◌, map, length, take, slice_get, count_by, Option, Some, None}
+use Rattle.std.specs.Prelude.{◌≡◌, ℕ, zero, suc, ◌+◌, ◌*◌, Bool, true, false, ◌||◌, ◌&&◌, eqb, nat_le, nat_lt}
+use Rattle.std.specs.Prelude.{if◌then◌else◌, List, [], ◌∷◌, ◌++◌, map, length, take, slice_get, count_by, Option, Some}
+use Rattle.std.specs.Prelude.{None}
 use Rattle.gs3_rules.specs.Rules.{alpha_parts, beta_parts, delta_part, gamma_part}
 use Rattle.free_terms.specs.Free.{Name, FreeTerm, FreeFormula, metavar, skolem, terms_of_list, instance}
 use Rattle.rewrite_rules.specs.Rules.{RewriteRule}

@@ -1,14 +1,18 @@
 -- How a branch of the program stands for what contracts see of it.
-use Rattle.std.specs.Prelude.{◌≡◌, ℕ, ◌+◌, ◌<◌, ◌≤◌, ◌^◌, IsTrue, false, List, map, length, take, get_or, slice_get, Option, Some, None, IsSome, MatchOption, ◌⊎◌}
-use Rattle.free_terms.specs.View.{name_of, formula_of}
+use Rattle.std.specs.Prelude.{◌≡◌, ℕ, ◌+◌, ◌<◌, ◌≤◌, ◌^◌, IsTrue, false, List, map, length, take, get_or, slice_get}
+use Rattle.std.specs.Prelude.{Option, Some, None, IsSome, MatchOption, ◌⊎◌}
+use Rattle.free_terms.specs.View.{name_of}
 use Rattle.gs3_rules.specs.Rules.{gamma_part}
 use Rattle.rewrite_rules.specs.Rules.{IsRuleAxiom}
-use Rattle.branch_rules.specs.Branch.{Branch, Entry, entries, metavars, segment, metavars_made, skolems_made, splits_done, times_taken, joined_at, go_left, go_right}
-use Rattle.branch_rules.specs.Next.{conjunctive, existential, disjunctive, universal, most_entries, most_splits, IsPending, HasRoom}
+use Rattle.branch_rules.specs.Branch.{Branch, Entry, entries, metavars, segment, metavars_made, skolems_made}
+use Rattle.branch_rules.specs.Branch.{splits_done, times_taken, joined_at, go_left, go_right}
+use Rattle.branch_rules.specs.Next.{conjunctive, existential, disjunctive, universal, most_entries, most_splits}
+use Rattle.branch_rules.specs.Next.{IsPending, HasRoom}
 use Rattle.branch_rules.specs.Kinds.{kind_of}
 use Rattle.branch_rules.specs.BranchValue.{BranchValue, branch_of, entry_of}
 use Rattle.branch_rules.specs.declared.kinds.Kind.{Kind}
-use Rattle.branch_rules.specs.declared.kinds.Kind.TheVariants.{Conjunctive, Existential, Disjunctive, Universal, Literal}
+use Rattle.branch_rules.specs.declared.kinds.Kind.TheVariants.{Conjunctive, Existential, Disjunctive, Universal}
+use Rattle.branch_rules.specs.declared.kinds.Kind.TheVariants.{Literal}
 use Rattle.branch_rules.specs.declared.held.Held.{Held}
 use Rattle.branch_rules.specs.declared.branch.Turn.{Turn}
 use Rattle.branch_rules.specs.declared.branch.Agenda.{Agenda}

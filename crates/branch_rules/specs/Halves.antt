@@ -1,6 +1,5 @@
 -- One side of a split, with what it appends.
-use Rattle.std.specs.Prelude.{◌≡◌, ℕ, ◌+◌, List, [], ◌∷◌, slice_get, Option, Some}
-use Rattle.free_terms.specs.Free.{FreeFormula}
+use Rattle.std.specs.Prelude.{◌≡◌, ℕ, ◌+◌, List, [], ◌∷◌, slice_get, Some}
 use Rattle.free_terms.specs.View.{formulas_of}
 use Rattle.free_terms.specs.View.{FreeTermFormula}
 use Rattle.branch_rules.specs.Branch.{Entry, entries, metavars, made_of, segment, segment_after}

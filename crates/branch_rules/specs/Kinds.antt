@@ -1,9 +1,10 @@
 -- Which step a formula asks for.
 use Rattle.std.specs.Prelude.{Bool, true, false}
 use Rattle.free_terms.specs.Free.{FreeFormula}
-use Rattle.fol_core.specs.Syntax.{FormulaOver, atom, verum, falsum, not, and, or, imp, iff, all, ex}
+use Rattle.fol_core.specs.Syntax.{atom, verum, falsum, not, and, or, imp, iff, all, ex}
 use Rattle.branch_rules.specs.declared.kinds.Kind.{Kind}
-use Rattle.branch_rules.specs.declared.kinds.Kind.TheVariants.{Conjunctive, Existential, Disjunctive, Universal, Literal}
+use Rattle.branch_rules.specs.declared.kinds.Kind.TheVariants.{Conjunctive, Existential, Disjunctive, Universal}
+use Rattle.branch_rules.specs.declared.kinds.Kind.TheVariants.{Literal}
 
 abbrev pub kind_of : FreeFormula → Kind
 kind_of (atom p us) = Literal

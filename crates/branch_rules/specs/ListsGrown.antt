@@ -1,11 +1,10 @@
 -- How the lists of a branch grow by one step.
-use Rattle.std.specs.Prelude.{◌≡◌, ℕ, suc, List, [], ◌∷◌, ◌++◌, map, length, take}
+use Rattle.std.specs.Prelude.{◌≡◌, ℕ, suc, List, [], ◌∷◌, ◌++◌, map, length}
 use Rattle.free_terms.specs.View.{FreeTermFormula}
 use Rattle.free_terms.specs.declared.term.Name.{Name}
 use Rattle.branch_rules.specs.declared.held.Held.{Held}
 use Rattle.branch_rules.specs.declared.step.Done.{Done}
 use Rattle.branch_rules.specs.declared.step.Done.TheVariants.{Step, Left, Right}
-use Rattle.branch_rules.specs.declared.step.TabKind.{TabKind}
 use Rattle.branch_rules.specs.declared.step.TabKind.TheVariants.{Alpha, Rewrite, Skolem, Instance}
 use Rattle.branch_rules.specs.declared.branch.Turn.{Turn}
 use Rattle.branch_rules.specs.declared.branch.Lists.{Lists}

@@ -1,10 +1,12 @@
 -- The step that comes next on a branch.
-use Rattle.std.specs.Prelude.{◌≡◌, ℕ, ◌*◌, ◌<◌, ◌≤◌, List, [], ◌∷◌, length, slice_get, Option, Some, IsSome, ◌⊎◌}
+use Rattle.std.specs.Prelude.{◌≡◌, ℕ, ◌*◌, ◌<◌, ◌≤◌, [], ◌∷◌, length, slice_get, Some, IsSome, ◌⊎◌}
 use Rattle.gs3_rules.specs.Rules.{alpha_parts, beta_parts, delta_part, gamma_part}
 use Rattle.free_terms.specs.Free.{FreeFormula}
 use Rattle.rewrite_rules.specs.Rules.{IsRuleAxiom}
 use Rattle.rewrite_rules.specs.Rewriting.{Rewriting, Rewrites}
-use Rattle.branch_rules.specs.Branch.{Branch, Entry, Done, expand, rewrite, skolemize, instantiate, go_left, go_right, principal, entries, after, next_metavar, next_skolem, splits_done, times_taken, joined_at}
+use Rattle.branch_rules.specs.Branch.{Branch, Entry, Done, expand, rewrite, skolemize, instantiate, go_left, go_right}
+use Rattle.branch_rules.specs.Branch.{principal, entries, after, next_metavar, next_skolem, splits_done, times_taken}
+use Rattle.branch_rules.specs.Branch.{joined_at}
 
 -- The classes of pending entries, in the order in which they are served.
 pub data Class : Type 0 where

@@ -1,11 +1,13 @@
 -- What the search for the next step answers.
-use Rattle.std.specs.Prelude.{◌≡◌, ℕ, ◌+◌, ◌*◌, ◌<◌, ◌≤◌, IsTrue, List, [], length, slice_get, Option, Some, None, IsSome, ◌⊎◌}
+use Rattle.std.specs.Prelude.{◌≡◌, ℕ, ◌+◌, ◌*◌, ◌<◌, ◌≤◌, IsTrue, List, [], length, slice_get, Option, Some, None}
+use Rattle.std.specs.Prelude.{IsSome, ◌⊎◌}
 use Rattle.gs3_rules.specs.Rules.{alpha_parts}
 use Rattle.free_terms.specs.Free.{Name}
 use Rattle.free_terms.specs.View.{formulas_of}
 use Rattle.rewrite_rules.specs.Rules.{RewriteRule, IsRuleAxiom}
 use Rattle.rewrite_rules.specs.Rewriting.{Rewriting, Rewrites}
-use Rattle.branch_rules.specs.Branch.{Branch, Entry, Done, expand, rewrite, go_left, entries, metavars, made_of, level_of, times_taken}
+use Rattle.branch_rules.specs.Branch.{Branch, Entry, Done, expand, rewrite, go_left, entries, metavars, made_of}
+use Rattle.branch_rules.specs.Branch.{level_of, times_taken}
 use Rattle.branch_rules.specs.Next.{Class, conjunctive, most_entries, IsPending, ComesNext, IsLeaf}
 use Rattle.branch_rules.specs.Kinds.{kind_of, in_first}
 use Rattle.branch_rules.specs.BranchView.{IsOpen, OverBefore}

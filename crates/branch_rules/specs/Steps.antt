@@ -1,6 +1,6 @@
 -- What a call of `next` and one of `halves` answer.
-use Rattle.std.specs.Prelude.{◌≡◌, ℕ, ◌+◌, List, [], ◌∷◌, ◌++◌, length, Option, Some, None}
-use Rattle.branch_rules.specs.Branch.{Branch, Done, go_left, go_right, entries, after}
+use Rattle.std.specs.Prelude.{◌≡◌, ℕ, ◌+◌, [], ◌∷◌, ◌++◌, length, Some, None}
+use Rattle.branch_rules.specs.Branch.{Done, go_left, go_right, entries, after}
 use Rattle.branch_rules.specs.Next.{ComesNext, IsLeaf}
 use Rattle.branch_rules.specs.BranchValue.{BranchValue, branch_of, done_as}
 use Rattle.branch_rules.specs.declared.step.TabStep.{TabStep}

@@ -1,6 +1,6 @@
 //! What a step on an entry appends, and whether there is room for it.
 
-ghost use Rattle.std.specs.Prelude.{◌≡◌, suc, ◌+◌, ◌<◌, ◌≤◌, ◌↔◌, ℕ, List, length, map, slice_get, Some, IsTrue, IfOk};
+ghost use Rattle.std.specs.Prelude.{◌≡◌, suc, ◌+◌, ◌<◌, ◌≤◌, ◌↔◌, ℕ, List, length, map, IsTrue, IfOk};
 ghost use Rattle.free_terms.specs.Free.{terms_of_list, metavar, skolem, HoldsNoBound};
 ghost use Rattle.free_terms.specs.View.{name_of, term_of, terms_of, formula_of};
 ghost use Rattle.fol_core.specs.Syntax.{not};

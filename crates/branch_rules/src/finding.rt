@@ -1,6 +1,6 @@
 //! The first entry of a kind.
 
-ghost use Rattle.std.specs.Prelude.{◌≡◌, ◌<◌, ◌≤◌, ◌↔◌, ℕ, length, slice_get, Some, IsTrue};
+ghost use Rattle.std.specs.Prelude.{◌≡◌, ◌<◌, ◌≤◌, ◌↔◌, length, slice_get, Some, IsTrue};
 ghost use Rattle.branch_rules.specs.Branch.{Entry as Item, entries, times_taken};
 ghost use Rattle.branch_rules.specs.Kinds.{kind_of};
 ghost use Rattle.branch_rules.specs.BranchView.{branch_in, Reads};

@@ -1,6 +1,6 @@
 //! The lists of a branch grow by a step.
 
-ghost use Rattle.std.specs.Prelude.{◌≡◌, ◌≤◌, ◌++◌, suc, false, length, take, IfOk, OnOk, OnErr};
+ghost use Rattle.std.specs.Prelude.{◌≡◌, ◌≤◌, ◌++◌, suc, false, length, OnOk, OnErr};
 ghost use Rattle.branch_rules.specs.BranchView.{AreOpen};
 ghost use Rattle.branch_rules.specs.ListsGrown.{held_at, names_by, turns_by, IsGrown, IsLonger, AreLonger};
 

@@ -4,7 +4,7 @@ ghost use Rattle.std.specs.Prelude.{◌≡◌, ◌<◌, ◌≤◌, false, length
 ghost use Rattle.seg_list.specs.Branching.{with_item};
 ghost use Rattle.branch_rules.specs.Branch.{entries, takes, times_taken};
 ghost use Rattle.branch_rules.specs.Next.{most_entries};
-ghost use Rattle.branch_rules.specs.BranchValue.{entry_of, done_of};
+ghost use Rattle.branch_rules.specs.BranchValue.{entry_of};
 ghost use Rattle.branch_rules.specs.BranchView.{branch_in, Reads};
 ghost use Rattle.branch_rules.specs.ListsGrown.{place_of, IsLonger};
 

@@ -1,6 +1,6 @@
 //! The formulas that a step appends.
 
-ghost use Rattle.std.specs.Prelude.{◌≡◌, [], ◌∷◌, option_map, IfOk};
+ghost use Rattle.std.specs.Prelude.{◌≡◌, [], ◌∷◌, IfOk};
 ghost use Rattle.free_terms.specs.Free.{HoldsNoBound, instance};
 ghost use Rattle.free_terms.specs.View.{term_of, formula_of, formulas_of};
 ghost use Rattle.fol_core.specs.Syntax.{not};

@@ -4,7 +4,6 @@ ghost use Rattle.std.specs.Prelude.{◌≡◌, ◌<◌, Some, IfOk};
 ghost use Rattle.branch_rules.specs.BranchValue.{done_of};
 ghost use Rattle.branch_rules.specs.Steps.{IsAfter, AreHalves};
 ghost use Rattle.branch_rules.specs.Halves.{side_of, IsSide};
-ghost use Rattle.branch_rules.specs.ListsGrown.{place_of};
 ghost use Rattle.branch_rules.specs.Taken.{past_disjunctive};
 
 use crate::branch::{Agenda, Branch, Counts};

@@ -1,6 +1,6 @@
 //! A step within a segment is done.
 
-ghost use Rattle.std.specs.Prelude.{◌≡◌, ◌<◌, ◌≤◌, ◌^◌, false, length, IfOk, OnErr};
+ghost use Rattle.std.specs.Prelude.{◌≡◌, ◌<◌, ◌≤◌, ◌^◌, false, IfOk, OnErr};
 ghost use Rattle.branch_rules.specs.BranchView.{branch_in, born_in, Reads, IsAgenda, AreOpen};
 ghost use Rattle.branch_rules.specs.Plans.{PlanMeans, IsFront};
 ghost use Rattle.branch_rules.specs.Taken.{counts_by, agenda_by, CountsUses, IsTaken};

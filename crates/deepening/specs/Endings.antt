@@ -1,5 +1,5 @@
 -- How a search ends, and why: one record for each end.
-use Rattle.std.specs.Prelude.{◌≡◌, ◌≢◌, ◌≤◌, ◌<◌, ℕ, List, Option, Some, None}
+use Rattle.std.specs.Prelude.{◌≡◌, ◌≢◌, ◌≤◌, ◌<◌, ℕ, List, Some, None}
 use Rattle.std.specs.List.{AllByRecursion}
 use Rattle.fof_parse.specs.Problem.{PlainProblem, Start}
 use Rattle.gs3_rules.specs.Apply.{rules_of}

@@ -26,7 +26,7 @@ use Rattle.pool_run.specs.declared.outcome.PoolEnd.TheVariants as pool
 use Rattle.translation.specs.Measures.{MeasuredProof}
 use Rattle.deskolem.specs.Answer.{most_nesting}
 use Rattle.deepening.specs.Depths.{NoneBefore}
-use Rattle.deepening.specs.Rounds.{RoundNodes, IsSettledSo, IsTranslationOf, ServesNot}
+use Rattle.deepening.specs.Rounds.{IsSettledSo, IsTranslationOf, ServesNot}
 use Rattle.deepening.specs.declared.agents.Worth.{Worth}
 use Rattle.deepening.specs.declared.agents.Worth.TheVariants as worth
 use Rattle.deepening.specs.declared.searching.Searched.{Searched}

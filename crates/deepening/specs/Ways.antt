@@ -1,5 +1,5 @@
 -- In what way the rounds of a search are settled.
-use Rattle.std.specs.Prelude.{ℕ, ◌<◌}
+use Rattle.std.specs.Prelude.{◌<◌}
 use Rattle.deepening.specs.declared.order.Way.{Way}
 use Rattle.deepening.specs.declared.order.Way.TheVariants.{Alone, Agents}
 

@@ -1,7 +1,7 @@
 //! The walk over a closed tree that lists the translation's steps in preorder.
 
 ghost use Rattle.std.specs.Prelude.{◌≡◌, ◌+◌, ◌*◌, ◌≤◌, ◌++◌, ◌∷◌, [], List};
-ghost use Rattle.std.specs.Prelude.{length, map, option_to_list, slice_get, take, IfErr, IfOk, OnOk};
+ghost use Rattle.std.specs.Prelude.{length, map, option_to_list, slice_get, take, IfOk, OnOk};
 ghost use Rattle.free_terms.specs.Free as free;
 ghost use Rattle.unify.specs.Offers.{Offer};
 ghost use Rattle.branch_rules.specs.BranchValue.{branch_of};
@@ -14,7 +14,7 @@ ghost use Rattle.tab_tree.specs.SiteValue.{item_of, segment_of};
 ghost use Rattle.translation.specs.StepTree.{or_zero};
 ghost use Rattle.deskolem.specs.Lines.{rules_of_lines, symbols_of};
 ghost use Rattle.deskolem.specs.Walked as walked;
-ghost use Rattle.deskolem.specs.Walking.{IsStanding, Refuses, Walks, WalksFork, WalksFrom, WalksSteps};
+ghost use Rattle.deskolem.specs.Walking.{IsStanding, Walks, WalksFork, WalksFrom, WalksSteps};
 ghost use Rattle.deskolem.specs.Walking.{closing_line, closing_rules};
 
 use crate::answer::GsError;

@@ -1,7 +1,7 @@
 //! Runs of bytes: what follows the bytes in front that are of one kind.
 
-ghost use Rattle.std.specs.Prelude.{◌≡◌, ◌≤◌, false, length, option_map, MatchOption};
-ghost use Rattle.fof_lex.specs.Bytes.{is_word_byte, is_digit, is_in_line, is_plain, is_escaped, is_lower};
+ghost use Rattle.std.specs.Prelude.{◌≡◌, ◌≤◌, false, option_map};
+ghost use Rattle.fof_lex.specs.Bytes.{is_word_byte, is_digit, is_in_line, is_plain, is_escaped};
 ghost use Rattle.fof_lex.specs.Reading.{after, after_close, after_quote, after_digits_or, without_sign, after_point};
 ghost use Rattle.fof_lex.specs.Reading.{after_exponent, after_number};
 

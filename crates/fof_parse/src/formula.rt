@@ -13,7 +13,7 @@ ghost use Rattle.fof_parse.specs.Reader.Reading.{equality_of};
 ghost use Rattle.fof_parse.specs.Reader.Reading.{operator_of, variable_of, repeats, can_join, next_operator};
 ghost use Rattle.fof_parse.specs.Problem.{plain_binary, plain_quantified};
 ghost use Rattle.fof_parse.specs.Reader.Views.{lead_view};
-ghost use Rattle.fof_parse.specs.Reader.Parsing.{ReadsUnit, ReadsBound, ReadsScope, ReadsBody, ReadsFormula, Parsed};
+ghost use Rattle.fof_parse.specs.Reader.Parsing.{ReadsUnit, ReadsBound, ReadsScope, ReadsFormula, Parsed};
 ghost use Rattle.fof_parse.specs.Reader.Building.{names, state_of};
 
 use crate::atom::{atom, equation};

@@ -26,5 +26,5 @@ pub struct Problem {
     pub statements: Statements,
     pub axioms: Formulas,
     pub conjecture: Option<Formula>,
-    pub ghost kept: { IsKept (plain_parts symbols statements axioms conjecture) } by { IsKept-prop (plain_parts symbols statements axioms conjecture) },
+    pub ghost kept: { IsKept (plain_parts symbols statements axioms conjecture) } by { IsKept-prop _ },
 }

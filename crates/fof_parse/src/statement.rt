@@ -1,6 +1,6 @@
 //! What stands around the formula of a statement.
 
-ghost use Rattle.std.specs.Prelude.{◌≡◌, ◌+◌, [], codes, IfOk, option_map};
+ghost use Rattle.std.specs.Prelude.{◌≡◌, ◌+◌, [], IfOk, option_map};
 ghost use Rattle.std.specs.List.{list_all};
 ghost use Rattle.fof_lex.specs.Bytes.{is_digit};
 ghost use Rattle.fof_parse.specs.Grammar.{is_integer, name_of};

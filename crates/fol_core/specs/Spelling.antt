@@ -1,5 +1,6 @@
 -- How symbols and closed terms are spelled in a proof's text.
-use Rattle.std.specs.Prelude.{◌≡◌, ℕ, suc, ◌<◌, ◌^◌, max, Bool, false, ◌&&◌, ◌||◌, eqb, nat_le, if◌then◌else◌, List, [], ◌∷◌, ◌++◌, slice_get, codes, decimal, Option, Some, None}
+use Rattle.std.specs.Prelude.{◌≡◌, ℕ, suc, ◌<◌, ◌^◌, max, Bool, false, ◌&&◌, ◌||◌, eqb, nat_le, if◌then◌else◌, List, []}
+use Rattle.std.specs.Prelude.{◌∷◌, ◌++◌, slice_get, codes, decimal, Option, Some, None}
 use Rattle.std.specs.List.{list_all, flat_map}
 use Rattle.fol_core.specs.Syntax.{PlainTerm, PlainTerms, bound, param, app, no_terms, terms}
 use Rattle.fol_core.specs.Symbol.{Symbol}

@@ -1,6 +1,7 @@
 -- Symbols: a name, as the bytes of its text, and a number of arguments. Two symbols of one name that take
 -- different numbers of arguments are two symbols.
-use Rattle.std.specs.Prelude.{◌≡◌, ◌↔◌, ◌⊎◌, ◌≤◌, ◌<◌, ℕ, List, [], ◌∷◌, ◌++◌, length, slice_get, Option, None, Some, refl}
+use Rattle.std.specs.Prelude.{◌≡◌, ◌↔◌, ◌⊎◌, ◌≤◌, ◌<◌, ℕ, List, [], ◌∷◌, ◌++◌, length, slice_get, Option, None, Some}
+use Rattle.std.specs.Prelude.{refl}
 use Rattle.std.specs.List.{All}
 use Rattle.std.specs.Coded.{Coded, code_by, coded×, coded_ℕ, coded_list}
 
@@ -38,7 +39,8 @@ symbols_code = coded_list (coded× (coded_list coded_ℕ) coded_ℕ)
 
 abbrev pub table_code : Coded SymbolTable
 table_code =
-    code_by (List Symbol × List Symbol) (coded× symbols_code symbols_code) (λ t. (t.functions, t.predicates)) (λ p. record { functions = p.0; predicates = p.1 }) (λ _. refl)
+    code_by (List Symbol × List Symbol) (coded× symbols_code symbols_code)
+    (λ t. (t.functions, t.predicates)) (λ p. record { functions = p.0; predicates = p.1 }) (λ _. refl)
 
 -- Each symbol of the list has a name, and none stands twice.
 pub record AreSymbols (list : List Symbol) : Type 0 where

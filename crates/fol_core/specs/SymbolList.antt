@@ -1,6 +1,7 @@
 -- A list of symbols, kept as its distinct names, each with its arities and their numbers, and for each symbol
 -- the place of its name.
-use Rattle.std.specs.Prelude.{◌≡◌, ◌↔◌, ◌<◌, ◌≤◌, ◌^◌, ℕ, List, [], ◌∷◌, map, length, get_or, Option, None, Some, slice_get, nat_eq, eqb, if◌then◌else◌, Vec}
+use Rattle.std.specs.Prelude.{◌≡◌, ◌↔◌, ◌<◌, ◌≤◌, ◌^◌, ℕ, List, [], ◌∷◌, map, length, get_or, Option, None, Some}
+use Rattle.std.specs.Prelude.{slice_get, nat_eq, eqb, if◌then◌else◌, Vec}
 use Rattle.std.specs.Cmp.Lexicographic.{pointwise}
 use Rattle.std.specs.List.{insert}
 use Rattle.std.specs.List.Sorted.{IsNonDecreasingBy, IsPartitionPoint}

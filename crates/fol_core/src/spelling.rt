@@ -2,7 +2,8 @@
 
 ghost use Rattle.std.specs.Prelude.{◌≡◌, ◌++◌, OnOk, OnErr};
 ghost use Rattle.std.specs.List.{list_all, flat_map};
-ghost use Rattle.fol_core.specs.Spelling.{is_word_byte, is_lower_word, escaped, spelled_symbol, spelled_param, spelled, spelled_arguments, IsOver, AreOver, IsGrown};
+ghost use Rattle.fol_core.specs.Spelling.{is_word_byte, is_lower_word, escaped, spelled_symbol, spelled_param, spelled};
+ghost use Rattle.fol_core.specs.Spelling.{spelled_arguments, IsOver, AreOver, IsGrown};
 ghost use Rattle.fol_core.specs.View.{term_of, terms_of};
 
 use crate::symbols::Symbols;

@@ -1,4 +1,5 @@
-ghost use Rattle.std.specs.Prelude.{◌≡◌, ◌↔◌, ◌<◌, [], length, slice_get, option_map, IsSome, IfSome, IfOk, OnOk, OnErr};
+ghost use Rattle.std.specs.Prelude.{◌≡◌, ◌↔◌, ◌<◌, [], length, slice_get, option_map, IsSome, IfSome, IfOk, OnOk};
+ghost use Rattle.std.specs.Prelude.{OnErr};
 ghost use Rattle.std.specs.Option.{option_copied};
 ghost use Rattle.fol_core.specs.Symbol.{IsSymbolName, IsNumberOf, IsAt, Interns, AreSymbols};
 
@@ -8,8 +9,9 @@ use std::marker::Model;
 
 /// The function symbols and the predicate symbols of a problem.
 ///
-/// A symbol is a name of one or more bytes from 32 to 126, and a number of arguments. Symbols of the two kinds are numbered apart,
-/// each kind from 0 in the order in which its symbols came, and no symbol stands twice in its list. A look-up takes no memory.
+/// A symbol is a name of one or more bytes from 32 to 126, and a number of arguments. Symbols of the two kinds are
+/// numbered apart, each kind from 0 in the order in which its symbols came, and no symbol stands twice in its list. A
+/// look-up takes no memory.
 #[derive(Drop)]
 pub struct Symbols {
     functions: Numbering,

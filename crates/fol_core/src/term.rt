@@ -1,6 +1,7 @@
 //! Terms, and what is asked of them.
-ghost use Rattle.std.specs.Prelude.{◌≡◌, ◌↔◌, ◌<◌, ◌++◌, ◌∷◌, [], suc, length, take, get_or, unwrap_or, IsTrue, IfOk};
-ghost use Rattle.fol_core.specs.Syntax.{open_term, open_terms, free_in_term, free_in_terms, IsClosedTerm, param_in_term, param_in_terms, param_bound_in_term, param_bound_in_terms};
+ghost use Rattle.std.specs.Prelude.{◌≡◌, ◌↔◌, ◌<◌, ◌++◌, ◌∷◌, [], unwrap_or, IsTrue, IfOk};
+ghost use Rattle.fol_core.specs.Syntax.{open_term, open_terms, free_in_term, free_in_terms, IsClosedTerm};
+ghost use Rattle.fol_core.specs.Syntax.{param_in_term, param_in_terms, param_bound_in_term, param_bound_in_terms};
 ghost use Rattle.fol_core.specs.View.{term_of, terms_of};
 
 use containers::{Items, Share, Shared, with_next};

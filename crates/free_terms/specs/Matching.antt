@@ -17,7 +17,8 @@ abbrev mutual
 
 -- One term for each of the pattern's variables, and none for a variable that the pattern does not have,
 -- with which the pattern is the target. A parameter has no free term, so a pattern with one is none.
-pub record IsMatch (pattern : plain.PlainTerms) (count : ℕ) (target : FreeTerms) (fills : List (Option FreeTerm)) : Type 0 where
+pub record IsMatch (pattern : plain.PlainTerms) (count : ℕ) (target : FreeTerms) (fills : List (Option FreeTerm)) :
+    Type 0 where
   pub no_param : NoParamInTerms pattern
   pub one_each : length fills ≡ count
   pub used : (n : ℕ) → n < count → (slice_get fills n ≡ Some None) ↔ (variable_in_terms n pattern ≡ false)

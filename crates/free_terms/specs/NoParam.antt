@@ -1,5 +1,6 @@
 -- That a term or a formula holds no parameter, part by part.
-use Rattle.fol_core.specs.Syntax.{PlainTerm, PlainTerms, PlainFormula, bound, param, app, no_terms, terms, atom, verum, falsum, not, and, or, imp, iff, all, ex}
+use Rattle.fol_core.specs.Syntax.{PlainTerm, PlainTerms, PlainFormula, bound, param, app, no_terms, terms, atom, verum}
+use Rattle.fol_core.specs.Syntax.{falsum, not, and, or, imp, iff, all, ex}
 
 abbrev mutual
   pub NoParamInTerm : PlainTerm → Type 0

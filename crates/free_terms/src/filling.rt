@@ -1,6 +1,7 @@
 //! Formulas with terms for the variables of stripped quantifiers.
 ghost use Rattle.std.specs.Prelude.{◌≡◌, unwrap_or, IfOk};
-ghost use Rattle.free_terms.specs.Free.{FreeTerms, filled_with, fill_term, fill_terms, fill_all, instance, HoldsNoBound};
+ghost use Rattle.free_terms.specs.Free.{FreeTerms, filled_with, fill_term, fill_terms, fill_all, instance};
+ghost use Rattle.free_terms.specs.Free.{HoldsNoBound};
 ghost use Rattle.free_terms.specs.View.{term_of, terms_of, formula_of, fills_of};
 
 use crate::fills::{Fill, Fills};

@@ -1,8 +1,8 @@
 //! The lines of a report.
 
-ghost use Rattle.std.specs.Prelude.{◌≡◌, ◌++◌, ◌∷◌, [], codes, decimal, OnOk};
+ghost use Rattle.std.specs.Prelude.{◌≡◌, ◌++◌, ◌∷◌, [], OnOk};
 ghost use Rattle.gs3_text.specs.ProofText.{text_of};
-ghost use Rattle.goeland_report.specs.Output.{printed_byte, file_text, status_word, status_line, engine_word};
+ghost use Rattle.goeland_report.specs.Output.{printed_byte, file_text, status_word, status_line};
 ghost use Rattle.goeland_report.specs.Output.{engine_line};
 ghost use Rattle.goeland_report.specs.Output.{walk_words, reason_words, bench_words, asked_lines};
 ghost use Rattle.goeland_report.specs.Asked.{asked_of};

@@ -5,7 +5,7 @@ ghost use Rattle.fol_core.specs.Symbol.{Symbol};
 ghost use Rattle.gs3_rules.specs.Refutes.{ProofTree};
 ghost use Rattle.gs3_text.specs.ProofText.{text_of, ProofText};
 ghost use Rattle.goeland_report.specs.Outcome.{give_up, proof, bench};
-ghost use Rattle.goeland_report.specs.Output.{head_lines, give_up_lines, bench_line};
+ghost use Rattle.goeland_report.specs.Output.{head_lines, bench_line};
 ghost use Rattle.goeland_report.specs.Reported.{proof_of, give_up_of, IsReport};
 
 use crate::cause::BenchResult;

@@ -1,5 +1,5 @@
 -- The search that a run is to make, and what is to be told of it.
-use Rattle.std.specs.Prelude.{◌≡◌, ℕ, true, List}
+use Rattle.std.specs.Prelude.{◌≡◌, true, List}
 use Rattle.fof_parse.specs.Problem.{PlainProblem}
 use Rattle.fof_parse.specs.ProblemView.{plain_problem}
 use Rattle.rewrite_rules.specs.Rules.{RewriteRule, RulesOf}

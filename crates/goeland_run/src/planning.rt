@@ -3,7 +3,6 @@
 ghost use Rattle.std.specs.Prelude.{◌≡◌, ◌≤◌, ℕ, List, None, IfOk, OnErr};
 ghost use Rattle.gl_outside.specs.Outside.{texts_of};
 ghost use Rattle.fof_parse.specs.Lines.{refusal_line};
-ghost use Rattle.fof_parse.specs.ProblemView.{plain_problem};
 ghost use Rattle.deepening.specs.RoundEnds.{AreLimits};
 ghost use Rattle.goeland_run.specs.PrintedText.{printed_text};
 ghost use Rattle.goeland_run.specs.Benching.{Benches};

@@ -3,7 +3,6 @@
 ghost use Rattle.std.specs.Prelude.{◌≡◌, ◌↔◌, ◌≤◌, [], ◌∷◌, max, slice_get, option_map, IsTrue, IfOk};
 ghost use Rattle.std.specs.Option.{option_copied};
 ghost use Rattle.fol_core.specs.View.{term_of, formula_of, formulas_of};
-ghost use Rattle.fol_core.specs.Syntax.{IsClosedTerm, param_in};
 ghost use Rattle.gs3_rules.specs.Rules as rules;
 ghost use Rattle.gs3_rules.specs.Apply.{rule_of, Answers};
 ghost use Rattle.gs3_rules.specs.ParamBound.{list_bound, rule_bound};

@@ -1,6 +1,6 @@
 //! A step's line.
 
-ghost use Rattle.std.specs.Prelude.{◌≡◌, ◌^◌, codes};
+ghost use Rattle.std.specs.Prelude.{◌≡◌, ◌^◌};
 ghost use Rattle.fol_core.specs.View.{term_of};
 ghost use Rattle.gs3_rules.specs.Apply.{rule_of};
 ghost use Rattle.gs3_text.specs.Reading.{Gives, strip, whole, number_at, place_at, term_at};

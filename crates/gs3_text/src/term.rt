@@ -1,6 +1,6 @@
 //! Terms in a text.
 
-ghost use Rattle.std.specs.Prelude.{◌≡◌, ◌<◌, ◌^◌, suc, length, map, IfOk};
+ghost use Rattle.std.specs.Prelude.{◌≡◌, ◌<◌, ◌^◌, length, map};
 ghost use Rattle.fol_core.specs.View.{term_of};
 ghost use Rattle.gs3_text.specs.Reading.{Gives, term_at, arguments_at, arguments_from, application_at};
 

@@ -3,8 +3,6 @@
 ghost use Rattle.std.specs.Prelude.{◌≡◌, ◌≤◌, ◌<◌, [], ◌∷◌, ◌^◌, suc, MatchOption, IfOk, length, option_map};
 ghost use Rattle.std.specs.List.{prefix_len};
 ghost use Rattle.gs3_text.specs.Reading.{Gives, strip, is_digit, value_after, number_of, number_at};
-ghost use Rattle.gs3_text.specs.Reading.{place_at, quoted_at, spelling_at};
-ghost use Rattle.fol_core.specs.Spelling.{is_word_byte};
 
 use crate::fault::Fault;
 

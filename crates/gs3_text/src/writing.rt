@@ -1,6 +1,6 @@
 //! Writing a proof text.
 
-ghost use Rattle.std.specs.Prelude.{◌≡◌, ◌++◌, ◌∷◌, [], codes, decimal, OnOk, IfOk};
+ghost use Rattle.std.specs.Prelude.{◌≡◌, ◌++◌, ◌∷◌, [], decimal, OnOk, IfOk};
 ghost use Rattle.std.specs.List.{AllByRecursion};
 ghost use Rattle.gs3_rules.specs.Apply.{rule_of, rules_of};
 ghost use Rattle.gs3_text.specs.ProofText.{line_of, proof_lines, text_of, IsSpellableTerm, HasSmallNumbers, ProofText};

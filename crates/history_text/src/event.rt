@@ -1,6 +1,6 @@
 //! The words of events.
 
-ghost use Rattle.std.specs.Prelude.{◌≡◌, ◌++◌, codes, decimal, OnOk};
+ghost use Rattle.std.specs.Prelude.{◌≡◌, ◌++◌, codes, OnOk};
 ghost use Rattle.std.specs.List.{flat_map};
 ghost use Rattle.fol_core.specs.Spelling.{IsGrown};
 ghost use Rattle.history_text.specs.Words.{side_word, part_words, decision_words, offers_text, task_words};

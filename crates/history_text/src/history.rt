@@ -1,6 +1,6 @@
 //! The lines of histories.
 
-ghost use Rattle.std.specs.Prelude.{◌≡◌, ◌++◌, ◌∷◌, [], map, OnOk, OnErr};
+ghost use Rattle.std.specs.Prelude.{◌≡◌, ◌++◌, ◌∷◌, [], OnOk, OnErr};
 ghost use Rattle.fol_core.specs.Spelling.{IsGrown};
 ghost use Rattle.gs3_text.specs.ProofText.{text_of};
 ghost use Rattle.history_text.specs.Lines.{event_line, node_lines, history_lines, history_of};

@@ -1,6 +1,6 @@
 //! A segment of an index, and the chain of segments above it.
 ghost use Rattle.std.specs.Prelude.{◌≡◌, ◌++◌, ◌∷◌, ◌<◌, All, AllPairs, IfOk, OnOk, OnErr};
-ghost use Rattle.lit_index.specs.Occurrences.{occurrence, places_of};
+ghost use Rattle.lit_index.specs.Occurrences.{places_of};
 ghost use Rattle.lit_index.specs.Chain.{occurrences_above, chain_with};
 ghost use Rattle.lit_index.specs.Links.{own_of, places_back, AreLinked, AreNewest};
 

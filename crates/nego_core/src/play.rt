@@ -17,11 +17,8 @@ ghost use Rattle.std.specs.Prelude.{
   length,
   slice_get,
 };
-ghost use Rattle.nego_laws.specs.Tree.{Tree};
-ghost use Rattle.nego_node.specs.Lawful.{task_of};
 ghost use Rattle.nego_node.specs.Board.{first_task, asked_at, said_at, BoardNode};
 ghost use Rattle.nego_node.specs.Machine.{part_of};
-ghost use Rattle.nego_node.specs.Sound.{Belongs};
 ghost use Rattle.nego_node.specs.declared.acts.Act.TheVariants as acts;
 ghost use Rattle.nego_core.specs.Bare.{bare};
 ghost use Rattle.nego_core.specs.Links.{place_of};

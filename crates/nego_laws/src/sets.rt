@@ -1,7 +1,7 @@
 //! A small field whose offers are sets of numbers.
 
-ghost use Rattle.std.specs.Prelude.{◌≡◌, [], ◌∷◌, option_copied, IfOk};
-ghost use Rattle.nego_laws.specs.Sets.{site_named, set_tree, needs_of, parted_of};
+ghost use Rattle.std.specs.Prelude.{◌≡◌, [], ◌∷◌, option_copied};
+ghost use Rattle.nego_laws.specs.Sets.{site_named, set_tree};
 ghost use Rattle.nego_laws.specs.SetLaws.{set_laws};
 
 use crate::field::{Field, Offer};

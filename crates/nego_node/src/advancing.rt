@@ -1,6 +1,6 @@
 //! The moves of a node other than to try an item and to split.
 
-ghost use Rattle.std.specs.Prelude.{◌≡◌, ◌≢◌, [], ◌++◌, ◌∷◌, ◌<◌, OnOk, IfOk, OnErr};
+ghost use Rattle.std.specs.Prelude.{◌≡◌, ◌≢◌, [], ◌++◌, ◌∷◌, ◌<◌, OnOk, OnErr};
 ghost use Rattle.nego_node.specs.Moves.{MayMove, Did};
 ghost use Rattle.nego_node.specs.declared.moves.Move.TheVariants as moves;
 

@@ -1,6 +1,6 @@
 //! Which moves are lawful, and which one is next.
 
-ghost use Rattle.std.specs.Prelude.{◌≡◌, ◌≢◌, ◌↔◌, ◌&&◌, not, true, IsTrue, IsSome, Some, is_some};
+ghost use Rattle.std.specs.Prelude.{◌≡◌, ◌≢◌, ◌↔◌, ◌&&◌, not, true, IsTrue, Some, is_some};
 ghost use Rattle.nego_node.specs.Machine.{half, other, generation_of, answered_in};
 ghost use Rattle.nego_node.specs.Moves.{
   seeks,

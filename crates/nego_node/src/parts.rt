@@ -1,6 +1,6 @@
 //! What a node keeps of its two parts.
 
-ghost use Rattle.std.specs.Prelude.{◌≡◌, ◌+◌, ◌<◌, ◌^◌, None, [], List, OnOk, OnErr, if◌then◌else◌};
+ghost use Rattle.std.specs.Prelude.{◌≡◌, ◌+◌, ◌<◌, ◌^◌, None, [], OnOk, OnErr, if◌then◌else◌};
 ghost use Rattle.nego_node.specs.Machine.{other};
 ghost use Rattle.nego_node.specs.Parts.{
   part,

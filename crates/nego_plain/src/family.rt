@@ -1,12 +1,12 @@
 //! A node with those below it, and what is done at one node.
 
-ghost use Rattle.std.specs.Prelude.{◌≡◌, ◌≢◌, false, OnOk, IfOk, MatchBool, IsSome, is_some};
+ghost use Rattle.std.specs.Prelude.{◌≡◌, ◌≢◌, false, OnOk, IfOk, MatchBool};
 ghost use Rattle.nego_laws.specs.Tree.{left_of, right_of};
 ghost use Rattle.nego_node.specs.Lawful.{MaySplit, CanTry};
 ghost use Rattle.nego_node.specs.Moves.{next_move, MayMove};
 ghost use Rattle.nego_node.specs.declared.moves.Move.TheVariants as moves;
 ghost use Rattle.nego_node.specs.Board.{opened as opened_node, with_event};
-ghost use Rattle.nego_plain.specs.Family.{top, alone, Steps};
+ghost use Rattle.nego_plain.specs.Family.{alone};
 ghost use Rattle.nego_plain.specs.Views.{board_node, family_of, IsAround};
 ghost use Rattle.nego_plain.specs.Engine.{DidMove, IsMoveLimited};
 ghost use Rattle.nego_node.specs.declared.events.Event.TheVariants as events;

@@ -3,7 +3,7 @@
 ghost use Rattle.std.specs.Prelude.{◌≡◌, ◌++◌, None, true, false, IfOk, OnOk, OnErr, MatchBool, IsSome, map};
 ghost use Rattle.nego_node.specs.Board.{opened as opened_node, first_task, with_event};
 ghost use Rattle.nego_node.specs.declared.events.Event.TheVariants.{Received};
-ghost use Rattle.nego_plain.specs.Family.{top, alone};
+ghost use Rattle.nego_plain.specs.Family.{alone};
 ghost use Rattle.nego_plain.specs.BoardOf.{nodes_of};
 ghost use Rattle.nego_plain.specs.Views.{board_node, family_of, IsAround};
 ghost use Rattle.nego_plain.specs.Engine.{NextIsTry, is_spent};

@@ -13,8 +13,8 @@ use nego_node::node::NodeState;
 use nego_node::tasks::Side;
 use std::alloc::{AllocError, Global};
 
-/// Follows the plain order in a family until its top has an answer, and answers true; or false where the next pick is an
-/// attempt and the limit is reached.
+/// Follows the plain order in a family until its top has an answer, and answers true; or false where the next pick is
+/// an attempt and the limit is reached.
 #[cycle(step)]
 pub(crate) fn work<F: Field>(
     alloc: Global,

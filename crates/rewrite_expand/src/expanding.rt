@@ -6,7 +6,8 @@ ghost use Rattle.fol_core.specs.View.{term_of};
 ghost use Rattle.gs3_rules.specs.Apply.{rule_of, rules_of};
 ghost use Rattle.gs3_rules.specs.Rules.{Rule, beta};
 ghost use Rattle.gs3_rules.specs.Refutes.{ProofTree, RefutedBy, preorder};
-ghost use Rattle.rewrite_expand.specs.Expansion.{body_place, expansion, gamma_steps, head_place, last_of, opposite, rewriting, whole};
+ghost use Rattle.rewrite_expand.specs.Expansion.{body_place, expansion, gamma_steps, head_place, last_of, opposite};
+ghost use Rattle.rewrite_expand.specs.Expansion.{rewriting, whole};
 ghost use Rattle.rewrite_expand.specs.Soundness.{IsRewriting, literal};
 ghost use Rattle.rewrite_expand.specs.View.{expansion_of};
 

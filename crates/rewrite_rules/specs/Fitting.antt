@@ -1,6 +1,8 @@
 -- Whether each variable of a formula stands in the arguments of an atom, as a test.
-use Rattle.std.specs.Prelude.{ℕ, zero, suc, ◌-◌, Bool, true, false, ◌||◌, ◌&&◌, nat_lt, ◌≡◌, Option, Some, None, List, [], ◌∷◌, get_or}
-use Rattle.fol_core.specs.Syntax.{PlainTerm, PlainTerms, PlainFormula, bound, param, app, no_terms, terms, atom, verum, falsum, not, and, or, imp, iff, all, ex}
+use Rattle.std.specs.Prelude.{ℕ, zero, suc, ◌-◌, Bool, true, false, ◌||◌, ◌&&◌, nat_lt, ◌≡◌, Option, Some, None, List}
+use Rattle.std.specs.Prelude.{[], ◌∷◌, get_or}
+use Rattle.fol_core.specs.Syntax.{PlainTerm, PlainTerms, PlainFormula, bound, param, app, no_terms, terms, atom, verum}
+use Rattle.fol_core.specs.Syntax.{falsum, not, and, or, imp, iff, all, ex}
 use Rattle.free_terms.specs.NoParam.{NoParamIn}
 use Rattle.free_terms.specs.Matching.{variable_in_terms}
 use Rattle.rewrite_rules.specs.Rules.{RewriteRule, rule_from}

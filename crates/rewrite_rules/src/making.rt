@@ -63,10 +63,10 @@ fn rules_of_axioms(alloc: Global, axioms: &Formulas) -> Result<Rules, AllocError
     Rules::of(alloc, items, marks)
 }
 
-/// The rules that the problem's axioms give, in input order, with rewriting on, and none with it off. An axiom that is an
-/// equivalence under any number of `!` gives one rule where a side fits: it is an atom, other than `$true` and `$false`,
-/// that has each free variable of the other side. The rule's head is the left side if that fits, else the right one. An
-/// error is want of memory.
+/// The rules that the problem's axioms give, in input order, with rewriting on, and none with it off. An axiom that is
+/// an equivalence under any number of `!` gives one rule where a side fits: it is an atom, other than `$true` and
+/// `$false`, that has each free variable of the other side. The rule's head is the left side if that fits, else the
+/// right one. An error is want of memory.
 pub fn rules_of(alloc: Global, problem: &Problem, on: bool) -> Result<Rules, AllocError>
     ensures { IfOk result (λ rules. RulesOf on (plain_problem problem.now).axioms (rules_in rules)) }
 {

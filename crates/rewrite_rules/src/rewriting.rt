@@ -94,10 +94,10 @@ fn rewrite_atom(
     Ok(None)
 }
 
-/// What the first rule whose head matches makes of the literal: of an atom the body's instance, and of a negated atom the
-/// negation of that instance. None exactly where no rule matches; a formula that is no literal has none. The literal's
-/// metavariables count as constants. Only rules whose head has the literal's predicate symbol are tried. An error is want
-/// of memory.
+/// What the first rule whose head matches makes of the literal: of an atom the body's instance, and of a negated atom
+/// the negation of that instance. None exactly where no rule matches; a formula that is no literal has none. The
+/// literal's metavariables count as constants. Only rules whose head has the literal's predicate symbol are tried. An
+/// error is want of memory.
 pub fn rewrite(
     alloc: Global,
     rules: &Rules,

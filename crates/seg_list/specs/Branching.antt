@@ -12,7 +12,8 @@ pub record Branching (T : Type 0) : Type 0 where
 abbrev pub branching_code : {T : Type 0} → Coded T → Coded (Branching T)
 branching_code {T} t =
     code_by (List T × (ℕ × Bool)) (coded× (coded_list t) (coded× coded_ℕ coded_bool))
-    (λ b. (b.items, (b.own_start, b.sealed))) (λ p. record { items = p.0; own_start = p.1.0; sealed = p.1.1 }) (λ _. refl)
+    (λ b. (b.items, (b.own_start, b.sealed)))
+    (λ p. record { items = p.0; own_start = p.1.0; sealed = p.1.1 }) (λ _. refl)
 
 -- the list without an item
 abbrev pub no_items : {T : Type 0} → Branching T

@@ -1,6 +1,6 @@
 -- The closed tree of an offer: each segment closes by its first item that the offer equates, and a segment without one
 -- splits.
-use Rattle.std.specs.Prelude.{◌≡◌, ℕ, ◌⊎◌}
+use Rattle.std.specs.Prelude.{◌≡◌, ◌⊎◌}
 use Rattle.unify.specs.Offers.{Offer}
 use Rattle.branch_rules.specs.Branch.{entries}
 use Rattle.tab_tree.specs.Items.{Item, ClosesNone, IsFirstClosed}

@@ -2,7 +2,7 @@
 use Rattle.std.specs.Prelude.{◌≡◌, List, [], ◌∷◌, slice_get, Option, Some, ◌⊎◌}
 use Rattle.fol_core.specs.Symbol.{Symbol}
 use Rattle.fol_core.specs.Spelling.{HasArity}
-use Rattle.free_terms.specs.Free.{FreeTerm, FreeTerms, FreeFormula, bound, metavar, skolem, app, no_terms, terms}
+use Rattle.free_terms.specs.Free.{FreeTerm, FreeTerms, bound, metavar, skolem, app, no_terms, terms}
 use Rattle.unify.specs.Offers.{Offer}
 use Rattle.unify.specs.Work.{count}
 use Rattle.branch_rules.specs.Branch.{Branch, Entry, Done, principal, skolemize, go_left, go_right, entries, metavars}

@@ -1,8 +1,8 @@
 -- The segments of a tableau. A segment is what one branch does between two splits.
-use Rattle.std.specs.Prelude.{◌≡◌, ℕ, suc, ◌+◌, ◌*◌, Bool, List, [], ◌∷◌, ◌++◌, length, slice_get, Option, Some, None}
-use Rattle.std.specs.Prelude.{◌⊎◌, eqb, if◌then◌else◌}
+use Rattle.std.specs.Prelude.{◌≡◌, ℕ, ◌+◌, ◌*◌, List, [], ◌∷◌, ◌++◌, length, Option, Some, None}
+use Rattle.std.specs.Prelude.{◌⊎◌, if◌then◌else◌}
 use Rattle.unify.specs.Offers.{Offer}
-use Rattle.branch_rules.specs.Branch.{Branch, Entry, Done, go_left, go_right, entries, after}
+use Rattle.branch_rules.specs.Branch.{Branch, Done, go_left, go_right, entries, after}
 use Rattle.tab_tree.specs.Tableau.{Tableau, leaf, step, split}
 use Rattle.tab_tree.specs.Items.{Item, items_of, ClosesSome}
 

@@ -1,5 +1,5 @@
 -- What contracts see of a site.
-use Rattle.std.specs.Prelude.{◌≡◌, ℕ, List, map, Option, Some, refl}
+use Rattle.std.specs.Prelude.{◌≡◌, ℕ, List, map, Option, refl}
 use Rattle.std.specs.Coded.{Coded, code_by, coded×, coded_ℕ, coded_list, coded_option}
 use Rattle.branch_rules.specs.Branch.{Branch, root}
 use Rattle.branch_rules.specs.BranchValue.{BranchValue, branch_code, branch_of}

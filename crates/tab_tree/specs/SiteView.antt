@@ -1,5 +1,5 @@
 -- How a site of the program stands for what contracts see of it.
-use Rattle.std.specs.Prelude.{◌≡◌, ℕ}
+use Rattle.std.specs.Prelude.{◌≡◌}
 use Rattle.branch_rules.specs.Branch.{entries}
 use Rattle.branch_rules.specs.BranchValue.{branch_of}
 use Rattle.tab_tree.specs.Segments.{items}

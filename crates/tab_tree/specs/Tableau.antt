@@ -1,5 +1,5 @@
 -- The tableau of depth d, its closing offers and the least depth.
-use Rattle.std.specs.Prelude.{◌≡◌, ℕ, ◌<◌, ◌≤◌, Bool, false, List, slice_get, Option, Some, None}
+use Rattle.std.specs.Prelude.{◌≡◌, ℕ, ◌<◌, ◌≤◌, false, List, slice_get, Option, Some, None}
 use Rattle.fol_core.specs.Syntax.{atom, verum, falsum, not}
 use Rattle.free_terms.specs.Free.{FreeTerms, FreeFormula}
 use Rattle.unify.specs.Offers.{Offer, IsOffer, EquatesAll}

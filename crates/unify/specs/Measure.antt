@@ -25,7 +25,8 @@ abbrev pub in_parentheses : ℕ → ℕ
 in_parentheses zero = zero
 in_parentheses (suc n) = suc (suc n)
 
--- Behind each argument stands a comma or the closing parenthesis. A variable, which no term of a proof has, has no text.
+-- Behind each argument stands a comma or the closing parenthesis. A variable, which no term of a proof has, has no
+-- text.
 abbrev mutual
   pub text_length : Lengths → FreeTerm → ℕ
   text_length l (bound n) = 0
@@ -58,7 +59,8 @@ abbrev pub HasExtent : Offer → Lengths → ℕ → FreeTerm → Extent → Typ
 HasExtent s l most t e = IsExtent most (text_length l (resolved s t)) (text_depth (resolved s t)) e
 
 abbrev pub HaveExtent : Offer → Lengths → ℕ → FreeTerms → Extent → Type 0
-HaveExtent s l most us e = IsExtent most (arguments_length l (resolved_all s us)) (arguments_depth (resolved_all s us)) e
+HaveExtent s l most us e =
+    IsExtent most (arguments_length l (resolved_all s us)) (arguments_depth (resolved_all s us)) e
 
 abbrev pub Extents : Type 0
 Extents = HashMap names.Name Extent (BuildHasherDefault FoldHasher)

@@ -1,8 +1,8 @@
 //! How deep terms nest.
 
-ghost use Rattle.std.specs.Prelude.{◌≡◌, ◌≤◌, OnSome, MatchOption};
+ghost use Rattle.std.specs.Prelude.{◌≡◌, ◌≤◌};
 ghost use Rattle.free_terms.specs.View.{term_of, terms_of};
-ghost use Rattle.unify.specs.Nesting.{nesting, nesting_below, most_nested, IsWithin};
+ghost use Rattle.unify.specs.Nesting.{nesting, nesting_below, IsWithin};
 
 use free_terms::{FTerm, FTerms};
 

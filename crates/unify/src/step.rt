@@ -1,13 +1,13 @@
 //! A step of unification: what the next pair of terms comes to.
 
-ghost use Rattle.std.specs.Prelude.{◌≡◌, ◌++◌, ◌∷◌, [], ◌↔◌, IsTrue, IfOk};
+ghost use Rattle.std.specs.Prelude.{◌≡◌, ◌++◌, ◌∷◌, [], ◌↔◌, IfOk};
 ghost use Rattle.free_terms.specs.Free as free;
 ghost use Rattle.free_terms.specs.View.{name_of, term_of};
 ghost use Rattle.unify.specs.Offers as offers;
 ghost use Rattle.unify.specs.Offers.{IsOffer};
 ghost use Rattle.unify.specs.View.{offer_of};
 ghost use Rattle.unify.specs.Memo.{Advances, Remembers, RemembersWith, StillRemembers, names};
-ghost use Rattle.unify.specs.Work.{pair_of, pairs_of, IsHead, AgainstMeans, StepMeans, NoneIfAgreed, IsUnboundHead};
+ghost use Rattle.unify.specs.Work.{pair_of, pairs_of, AgainstMeans, StepMeans, NoneIfAgreed, IsUnboundHead};
 
 use crate::bindings::{Binding, Bindings};
 use crate::follow::{head, is_metavar, occurs};
