@@ -36,6 +36,7 @@ use Rattle.deskolem.specs.Answer.{most_nesting}
 use Rattle.deepening.specs.Kept.{root_offer}
 use Rattle.deepening.specs.declared.kept.Kept.{Kept}
 use Rattle.deepening.specs.declared.limits.Limits.{Limits}
+use Rattle.deepening.specs.declared.limits.TheConstants.{POOL_TRIES}
 use Rattle.deepening.specs.declared.order.Order.TheVariants.{Plain, Scheduled}
 use Rattle.deepening.specs.declared.order.Way.{Way}
 use Rattle.deepening.specs.declared.order.Way.TheVariants.{Alone, Agents}
@@ -85,7 +86,7 @@ module _ (seed turns : ℕ) (round : RoundValue) where
 
 -- how many tries a pool has
 abbrev pub pool_limit : Limits → ℕ
-pool_limit limits = unwrap_or limits.tries 1000000
+pool_limit limits = unwrap_or limits.tries POOL_TRIES
 
 -- A pool with so many tries worked on the round. Each history is a run of the machine.
 pub record IsPoolRun (limit : ℕ) (round : RoundValue) (run : RoundRun) : Type 0 where

@@ -9,7 +9,7 @@ ghost use Rattle.deepening.specs.RoundEnds.{AreLimits, EndsRound, SettlesPool, I
 use crate::alone::plainly;
 use crate::endings::Ending;
 use crate::kept::Kept;
-use crate::limits::Limits;
+use crate::limits::{Limits, POOL_TRIES};
 use crate::settled::SettledRound;
 use crate::translated::closed;
 use containers::Shared;
@@ -141,7 +141,7 @@ pub(crate) fn settle_together<G: Gate, R: Threads + Wait + Sync>(
         round: round.copy()?,
         alloc,
     };
-    let most = limits.tries.unwrap_or(1_000_000);
+    let most = limits.tries.unwrap_or(POOL_TRIES);
     let run = pool_of::<Brand, G, R>(rt, alloc, &field, workers, most, gate)?;
     match worth_of(alloc, round.get(), run.end(), limits)? {
         Worth::Proof(steps) => Ok(pooled_round(round.get(), run, Some(Ending::Found(steps)))),

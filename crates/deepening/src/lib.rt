@@ -13,6 +13,6 @@ mod translated;
 
 pub use endings::Ending;
 pub use kept::Kept;
-pub use limits::Limits;
+pub use limits::{Limits, POOL_TRIES};
 pub use order::{Order, Way};
 pub use searching::{Searched, search, search_alone};

@@ -1,5 +1,8 @@
 //! The limits of a search.
 
+/// The attempts of a pool in one round, where the words set no limit.
+pub const POOL_TRIES: u64 = 100_000;
+
 /// How far a search goes.
 #[derive(Clone, Copy)]
 pub struct Limits {
